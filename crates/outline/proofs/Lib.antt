@@ -1,0 +1,6 @@
+-- The crate's own laws.
+pub mod Marked
+pub mod ReadBack
+pub mod Changed
+pub mod OneOutcome
+pub mod Differing

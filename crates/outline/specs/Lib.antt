@@ -1,0 +1,7 @@
+-- Document 01, "The kept outline" and "Replies": what the contracts cite, and the theorems over the definitions.
+pub mod Words
+pub mod Stores
+pub mod Replies
+pub mod Answers
+pub mod Examples
+pub mod Theorems

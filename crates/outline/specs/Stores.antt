@@ -1,0 +1,79 @@
+-- Document 01, "The kept outline": what stands in a store, and whether it is sound.
+use mathlib.Core.Bool.{Bool, true, false}
+use mathlib.Core.List.{List, [], _∷_}
+use Prim.Native.Nat.{ℕ, zero, suc, _+_, _*_}
+use lib.Dec.{eqb}
+use lib.IntN.{pos}
+use lib.ListN.{getD, take, drop}
+use Rattle.arc.specs.declared.Edge.{Edge}
+use Rattle.variable_stroke.specs.Paths.{bodiesOf}
+use Rattle.variable_stroke.specs.declared.Vertex.{Vertex}
+use Rattle.outline.specs.Words.{numberOf, outlineBytes}
+
+-- the words of a store; bytes left over are none
+unfoldable pub wordsIn : List ℕ → List ℕ
+wordsIn [] = []
+wordsIn (a ∷ []) = []
+wordsIn (a ∷ b ∷ []) = []
+wordsIn (a ∷ b ∷ c ∷ []) = []
+wordsIn (a ∷ b ∷ c ∷ d ∷ l) = (a + 256 * b + 65536 * c + 16777216 * d) ∷ wordsIn l
+
+unfoldable pub wordAt : List ℕ → ℕ → ℕ
+wordAt store i = getD (wordsIn store) i 0
+
+-- Header: edition, kind, grade, vertices n, edges m.
+unfoldable pub editionIn : List ℕ → ℕ
+editionIn store = wordAt store 0
+
+unfoldable pub kindIn : List ℕ → ℕ
+kindIn store = wordAt store 1
+
+unfoldable pub gradeIn : List ℕ → ℕ
+gradeIn store = wordAt store 2
+
+unfoldable pub countIn : List ℕ → ℕ
+countIn store = wordAt store 3
+
+-- Length 24 + 16n + 16m bytes.
+unfoldable pub lengthIn : List ℕ → ℕ
+lengthIn store = 24 + 16 * countIn store + 16 * wordAt store 4
+
+-- Per vertex: x, y, radius and a count; n vertices of a table.
+unfoldable pub entriesIn : ℕ → List ℕ → List Vertex
+entriesIn zero ws = []
+entriesIn (suc n) [] = []
+entriesIn (suc n) (x ∷ []) = []
+entriesIn (suc n) (x ∷ y ∷ []) = []
+entriesIn (suc n) (x ∷ y ∷ r ∷ []) = []
+entriesIn (suc n) (x ∷ y ∷ r ∷ c ∷ ws) = record { x = numberOf x; y = numberOf y; radius = pos r } ∷ entriesIn n ws
+
+unfoldable pub pathIn : List ℕ → List Vertex
+pathIn store = entriesIn (countIn store) (drop 5 (wordsIn store))
+
+-- What its own vertices and grade give.
+unfoldable pub dueIn : List ℕ → List ℕ
+dueIn store = outlineBytes (gradeIn store) (pathIn store)
+
+-- the bodies of the path that a store keeps
+unfoldable pub bodiesIn : List ℕ → List (List Edge)
+bodiesIn store = bodiesOf (gradeIn store) (pathIn store)
+
+-- Sound means: equal to what its own vertices and grade give. Lent bytes may go on after it.
+unfoldable pub sameBytes : List ℕ → List ℕ → Bool
+sameBytes [] [] = true
+sameBytes [] (b ∷ m) = false
+sameBytes (a ∷ l) [] = false
+sameBytes (a ∷ l) (b ∷ m) = elim (eqb a b) [ true ↦ sameBytes l m | false ↦ false ]
+
+unfoldable pub soundOf : List ℕ → Bool
+soundOf store = sameBytes (take (lengthIn store) store) (dueIn store)
+
+-- the first place where two lists differ; the length of one where it begins the other
+unfoldable pub firstDiffering : List ℕ → List ℕ → ℕ
+firstDiffering [] m = 0
+firstDiffering (a ∷ l) [] = 0
+firstDiffering (a ∷ l) (b ∷ m) = elim (eqb a b) [ true ↦ suc (firstDiffering l m) | false ↦ 0 ]
+
+-- the first byte of a store that differs from what is due
+unfoldable pub differingIn : List ℕ → ℕ
+differingIn store = firstDiffering (take (lengthIn store) store) (dueIn store)

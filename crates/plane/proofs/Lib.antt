@@ -1,0 +1,5 @@
+-- The crate's own laws.
+pub mod Settle
+pub mod Products
+pub mod Directions
+pub mod Turns

@@ -1,0 +1,3 @@
+-- Document 01, "Numbers underneath", for points and vectors: what the contracts cite.
+pub mod Vectors
+pub mod Directions

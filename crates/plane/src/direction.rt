@@ -1,0 +1,156 @@
+// The direction of a vector, by a guess that exact tests settle, and the step of a grade.
+use crate::Vector;
+use number::sign::signed;
+use number::sign::size;
+use number::wide::product;
+ghost use mathlib.Core.Path.{_≡_};
+ghost use Prim.Native.Nat.{_+_, _*_, _^_, _<_, _≤_};
+ghost use lib.Dec.{leb};
+ghost use Rattle.plane.specs.Vectors.{Short, squareOf};
+ghost use Rattle.plane.specs.Directions.{partOf, directionOf, stepOf};
+
+// Whether the number a * 2^64 + b is at most p * 2^64 + q.
+fn at_most(a: u64, b: u64, p: u64, q: u64) -> bool
+    ensures { λ r. ⌜ r ≡ leb (a * 2 ^ 64 + b) (p * 2 ^ 64 + q) ⌝ }
+{
+    if a == p { b <= q } else { a < p }
+}
+
+// Whether n * n * s <= c * c * 2^60.
+fn within(n: u64, c: u64, s: u64) -> bool
+    requires { ⌜ (n ≤ 2 ^ 31) × (c ≤ 2 ^ 31) ⌝ }
+    ensures { λ r. ⌜ r ≡ leb (n * n * s) (c * c * 2 ^ 60) ⌝ }
+{
+    let p = product(n * n, s);
+    let e = product(c * c, 0x1000_0000_0000_0000);
+    at_most(p.hi, p.lo, e.hi, e.lo)
+}
+
+// The first number from g down that is within.
+fn down(g: u64, c: u64, s: u64) -> u64
+    requires { ⌜ (g ≤ 2 ^ 30) × (c ≤ 2 ^ 30) ⌝ }
+    ensures { λ r. ⌜ (r ≤ 2 ^ 30) × (r * r * s ≤ c * c * 2 ^ 60) ⌝ }
+{
+    let mut n = g;
+    while !within(n, c, s) {
+        n -= 1;
+    }
+    n
+}
+
+// The last number from g up that is within.
+fn up(g: u64, c: u64, s: u64) -> u64
+    requires { ⌜ (g ≤ 2 ^ 30) × (g * g * s ≤ c * c * 2 ^ 60) × (c ≤ 2 ^ 30) × (c * c ≤ s) × (0 < s) ⌝ }
+    ensures { λ r. ⌜ (r ≡ partOf c s) × (r ≤ 2 ^ 30) ⌝ }
+{
+    let mut n = g;
+    while within(n + 1, c, s) {
+        n += 1;
+    }
+    n
+}
+
+// Two lines along the root of t, within one part in a hundred and thirty of it where t is at least 2^62.
+fn first(t: u64) -> u64
+    ensures { λ r. ⌜ (2 ^ 30 ≤ r) × (r ≤ 2 ^ 33) ⌝ }
+{
+    let m = t / 0x400_0000_0000;
+    if t < 0x8000_0000_0000_0000 {
+        1267380000 + m * 855
+    } else {
+        1792333000 + m * 604
+    }
+}
+
+// A number near the root of t, where t is at least 2^62, by two of Newton's steps. Only that it is not 0 matters to the result.
+fn near_root(t: u64) -> u64
+    ensures { λ r. ⌜ 0 < r ⌝ }
+{
+    let a = first(t);
+    let b = (a + t / a) / 2;
+    (b + t / b) / 2
+}
+
+// Half the leading zeros of s, so that s * 4^k is at least 2^62.
+fn level(s: u64) -> u32
+    requires { ⌜ 0 < s ⌝ }
+    ensures { λ k. ⌜ k ≤ 31 ⌝ }
+{
+    u64::leading_zeros(s) / 2
+}
+
+// A number near c * 2^30 / root of s, with h near the root of s * 4^k.
+fn guess(c: u64, k: u32, h: u64) -> u64
+    requires { ⌜ (k ≤ 31) × (0 < h) ⌝ }
+    ensures { λ r. ⌜ r ≤ 2 ^ 30 ⌝ }
+{
+    let g = (c << (30 + k)) / h;
+    if g < 0x4000_0000 { g } else { 0x4000_0000 }
+}
+
+// The size of a direction's component: the largest n with n * n * s <= c * c * 2^60.
+fn part(c: u64, s: u64, k: u32, h: u64) -> u64
+    requires { ⌜ (c ≤ 2 ^ 30) × (c * c ≤ s) × (0 < s) × (k ≤ 31) × (0 < h) ⌝ }
+    ensures { λ r. ⌜ (r ≡ partOf c s) × (r ≤ 2 ^ 30) ⌝ }
+{
+    up(down(guess(c, k, h), c, s), c, s)
+}
+
+// The direction of a vector that is not zero.
+pub fn direction(v: Vector) -> Vector
+    requires { ⌜ Short v × (0 < squareOf v) ⌝ }
+    ensures { λ r. ⌜ r ≡ directionOf v ⌝ }
+{
+    let x = v.x;
+    let y = v.y;
+    let m = size(x);
+    let n = size(y);
+    let s = m * m + n * n;
+    let k = level(s);
+    let h = near_root(s << (2 * k));
+    Vector {
+        x: signed(x < 0, part(m, s, k, h)),
+        y: signed(y < 0, part(n, s, k, h)),
+    }
+}
+
+// The step of a grade: the direction of (4^k - 1, 2^(k+1)).
+pub fn step(grade: u32) -> Vector
+    requires { ⌜ (1 ≤ grade) × (grade ≤ 8) ⌝ }
+    ensures { λ r. ⌜ r ≡ stepOf grade ⌝ }
+{
+    match grade {
+        1 => Vector {
+            x: 644245094,
+            y: 858993459,
+        },
+        2 => Vector {
+            x: 947419256,
+            y: 505290270,
+        },
+        3 => Vector {
+            x: 1040703614,
+            y: 264305679,
+        },
+        4 => Vector {
+            x: 1065385856,
+            y: 133695480,
+        },
+        5 => Vector {
+            x: 1071646718,
+            y: 67043391,
+        },
+        6 => Vector {
+            x: 1073217663,
+            y: 33546241,
+        },
+        7 => Vector {
+            x: 1073610759,
+            y: 16776192,
+        },
+        _ => Vector {
+            x: 1073709056,
+            y: 8388480,
+        },
+    }
+}

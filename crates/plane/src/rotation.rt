@@ -1,0 +1,38 @@
+// A direction turned by a step, and scaled by a radius.
+use crate::Vector;
+use crate::vectors::difference;
+use crate::vectors::sum;
+use number::sign::signed;
+use number::sign::size;
+ghost use mathlib.Core.Path.{_≡_};
+ghost use Prim.Native.Nat.{_^_, _≤_};
+ghost use lib.IntN.{pos, natAbs, _+ℤ_, _*ℤ_, _-ℤ_};
+ghost use lib.Signed.{quotZ};
+ghost use Rattle.number.specs.MulDiv.{mulDivOf};
+ghost use Rattle.plane.specs.Directions.{UnitLong, rotatedOf};
+
+// z / 2^30, towards zero.
+fn part(z: i64) -> i64
+    ensures { λ r. ⌜ r ≡ quotZ z (pos (2 ^ 30)) ⌝ }
+{
+    z / 0x4000_0000
+}
+
+// The direction v turned by the step t: each component divided by 2^30, towards zero.
+pub fn rotated(t: Vector, v: Vector) -> Vector
+    requires { ⌜ UnitLong t × UnitLong v ⌝ }
+    ensures { λ r. ⌜ r ≡ rotatedOf t v ⌝ }
+{
+    Vector {
+        x: part(difference(t.x, v.x, t.y, v.y)),
+        y: part(sum(t.y, v.x, t.x, v.y)),
+    }
+}
+
+// A direction's component scaled by a radius: d * r / 2^30, to the nearest whole number, halves away from zero.
+pub fn scaled(d: i64, r: u64) -> i64
+    requires { ⌜ (natAbs d ≤ 2 ^ 30) × (r ≤ 2 ^ 28) ⌝ }
+    ensures { λ z. ⌜ z ≡ mulDivOf d (pos r) (2 ^ 30) ⌝ }
+{
+    signed(d < 0, (size(d) * r + 0x2000_0000) / 0x4000_0000)
+}

@@ -1,0 +1,4 @@
+-- The laws.
+pub mod Laws
+pub mod Onward
+pub mod Written

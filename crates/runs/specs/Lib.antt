@@ -1,0 +1,2 @@
+-- The words in which contracts speak of what was written, or compared.
+pub mod Runs

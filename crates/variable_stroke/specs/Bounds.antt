@@ -1,0 +1,41 @@
+-- What the limits leave of vertices, sections, chains and walks: what the functions below the calls ask for.
+use mathlib.Core.Path.{_≡_}
+use Prim.Native.Nat.{ℕ, _^_}
+use Rattle.whole.specs.Sizes.{Size}
+use Rattle.arc.specs.Bounds.{Radius, About}
+use Rattle.variable_stroke.specs.Contacts.{centreOf}
+use Rattle.variable_stroke.specs.declared.Vertex.{Vertex}
+use Rattle.variable_stroke.specs.declared.Section.{Section}
+use Rattle.variable_stroke.specs.declared.Last.{Last}
+use Rattle.variable_stroke.specs.declared.Last.the-variants.{Nothing, Held}
+use Rattle.variable_stroke.specs.declared.Chain.{Chain}
+use Rattle.variable_stroke.specs.declared.Walk.{Walk}
+
+-- a vertex within the limits
+pub record Inside (v : Vertex) : Type 0 where
+  pub x : Size (2 ^ 28) (v .x)
+  pub y : Size (2 ^ 28) (v .y)
+  pub radius : Radius (v .radius)
+
+-- a section of such vertices, each contact about its centre
+pub record Around (s : Section) : Type 0 where
+  pub a : Inside (s .a)
+  pub b : Inside (s .b)
+  pub left-a : About (centreOf (s .a)) (s .left .a)
+  pub left-b : About (centreOf (s .b)) (s .left .b)
+  pub right-a : About (centreOf (s .a)) (s .right .a)
+  pub right-b : About (centreOf (s .b)) (s .right .b)
+
+-- the section that may be held
+unfoldable pub AroundLast : Last → Type 0
+AroundLast Nothing = Unit {0}
+AroundLast (Held s) = Around s
+
+pub record AroundChain (c : Chain) : Type 0 where
+  pub start : Inside (c .start)
+  pub last : AroundLast (c .last)
+
+pub record AroundWalk (w : Walk) : Type 0 where
+  pub at : Inside (w .at)
+  pub chain : AroundChain (w .chain)
+  pub previous : AroundLast (w .previous)

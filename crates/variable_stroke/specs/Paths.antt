@@ -1,0 +1,35 @@
+-- Document 01, "Chains" and "The kept outline": a path's edges, by the vertex on whose reaching they are emitted.
+use mathlib.Core.List.{List, [], _∷_, _++_}
+use Prim.Native.Nat.{ℕ}
+use lib.ListN.{length, getD}
+use Rattle.plane.specs.Directions.{stepOf}
+use Rattle.plane.specs.declared.Vector.{Vector}
+use Rattle.arc.specs.declared.Edge.{Edge}
+use Rattle.variable_stroke.specs.Chains.{finishOf, emittedOf, nextOf, startOf}
+use Rattle.variable_stroke.specs.declared.Vertex.{Vertex}
+use Rattle.variable_stroke.specs.declared.Walk.{Walk}
+
+-- A body for each next vertex. At the end, finish with the closing cap: the closing body stands last.
+unfoldable pub bodiesFrom : Vector → Walk → List Vertex → List (List Edge)
+bodiesFrom t w [] = finishOf t (w .chain) (w .closing) ∷ []
+bodiesFrom t w (b ∷ bs) = emittedOf t w b ∷ bodiesFrom t (nextOf w b) bs
+
+-- A body for each vertex, the first without edges, and the closing body.
+unfoldable pub bodiesAt : Vector → List Vertex → List (List Edge)
+bodiesAt t [] = [] ∷ []
+bodiesAt t (v ∷ vs) = [] ∷ bodiesFrom t (startOf v) vs
+
+unfoldable pub bodiesOf : ℕ → List Vertex → List (List Edge)
+bodiesOf g vs = bodiesAt (stepOf g) vs
+
+unfoldable pub closingOf : ℕ → List Vertex → List Edge
+closingOf g vs = getD (bodiesOf g vs) (length vs) []
+
+-- bodies, one after another
+unfoldable pub joined : List (List Edge) → List Edge
+joined [] = []
+joined (b ∷ bs) = b ++ joined bs
+
+-- the edges of document 01's rules, in order
+unfoldable pub edgesOf : ℕ → List Vertex → List Edge
+edgesOf g vs = joined (bodiesOf g vs)

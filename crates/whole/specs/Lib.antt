@@ -1,0 +1,2 @@
+-- The words in which contracts speak of a number's size.
+pub mod Sizes

@@ -1,0 +1,1 @@
+// Laws of whole numbers, signed and not; no code.

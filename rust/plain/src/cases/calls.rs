@@ -1,0 +1,840 @@
+//! Cases of the four calls: a fixed list, and as many random ones as wanted.
+
+use super::line;
+use crate::answers::needed;
+use plain::calls::{draw, keep};
+use plain::contacts::LIMIT;
+use plain::random::Random;
+
+const MOST: i32 = LIMIT as i32;
+
+/// A place past every store: code 5 damages nothing there.
+const NOWHERE: i64 = 1_000_000_000;
+
+type Triple = [i32; 3];
+
+/// The eleven marked examples, and the number the last one refuses.
+const EXAMPLES: [&[Triple]; 12] = [
+    &[],
+    &[[0, 0, 10]],
+    &[[0, 0, 1]],
+    &[[0, 0, 2]],
+    &[[0, 0, 5], [20, 0, 5]],
+    &[[0, 0, 5], [20, 0, 5], [40, 0, 5]],
+    &[[0, 0, 10], [3, 0, 2], [6, 0, 10]],
+    &[[0, 0, 10], [3, 0, 2]],
+    &[[0, 0, 5], [3, 4, 0]],
+    &[[0, 0, 1], [20, 0, 1]],
+    &[[268435456, 0, 10]],
+    &[[268435457, 0, 10]],
+];
+
+/// The paths that the readings name, and what they tell of covering, of breaks
+/// and of thin steps.
+const READINGS: [&[Triple]; 12] = [
+    &[[0, 0, 2], [10, 10, 2], [20, 20, 2]],
+    &[[0, 0, 5], [20, 0, 5], [10, 0, 5]],
+    &[[0, 0, 5], [20, 0, 5], [10, 0, 4]],
+    &[[0, 0, 5], [20, 0, 5], [10, 0, 4], [10, 0, 4]],
+    &[[0, 0, 5], [20, 0, 5], [20, 0, 5], [10, 0, 2]],
+    &[[0, 0, 0], [40, 0, 20], [12, 0, 1]],
+    &[[40, 0, 20], [0, 0, 0], [12, 0, 1]],
+    &[[0, 0, 2], [2, 0, 1]],
+    &[[0, -46, 267688968], [0, 0, 267688965], [0, 138, 267688956]],
+    &[[0, 0, 5], [3, 4, 10]],
+    &[[0, 0, 5], [20, 0, 1], [40, 0, 1], [60, 0, 5]],
+    &[[0, 0, 5], [20, 0, 1], [40, 0, 1], [20, 0, 1], [20, 20, 5]],
+];
+
+fn flat(path: &[Triple]) -> Vec<i32> {
+    path.concat()
+}
+
+/// How many numbers the edges of a path take, 0 if it is refused anyhow.
+fn needed_numbers(path: &[i32], grade: u32) -> usize {
+    let reply = draw(path, grade, &mut []);
+    if reply.reply == 5 {
+        4 * reply.number as usize
+    } else {
+        0
+    }
+}
+
+/// The outline of a path that is not refused.
+fn kept(path: &[i32], grade: u32) -> Vec<u8> {
+    let mut store = vec![0; needed(path, grade)];
+    keep(path, grade, &mut store);
+    store
+}
+
+fn case<T: Copy + Into<i64>>(head: &[i64], lent: &[T]) -> String {
+    let mut numbers = head.to_vec();
+    numbers.push(lent.len() as i64);
+    numbers.extend(lent.iter().map(|&entry| entry.into()));
+    line(&numbers)
+}
+
+fn draw_case(grade: u32, room: usize, path: &[i32]) -> String {
+    case(&[1, grade as i64, room as i64], path)
+}
+
+fn keep_case(grade: u32, room: usize, path: &[i32]) -> String {
+    case(&[2, grade as i64, room as i64], path)
+}
+
+fn read_case(room: usize, store: &[u8]) -> String {
+    case(&[3, room as i64], store)
+}
+
+fn replace_case(index: i64, [x, y, radius]: Triple, store: &[u8]) -> String {
+    case(&[4, index, x as i64, y as i64, radius as i64], store)
+}
+
+/// What code 5 does to the outline it keeps.
+struct Edit {
+    extra: i64,
+    at: i64,
+    value: i64,
+    index: i64,
+    vertex: Triple,
+}
+
+fn edit_case(grade: u32, edit: &Edit, path: &[i32]) -> String {
+    let [x, y, radius] = edit.vertex.map(i64::from);
+    let head = [5, grade as i64, edit.extra, edit.at, edit.value, edit.index];
+    case(&[head.as_slice(), &[x, y, radius]].concat(), path)
+}
+
+/// The fixed list.
+pub fn fixed() -> Vec<String> {
+    let mut cases = Vec::new();
+    for path in EXAMPLES {
+        each_call(&mut cases, path, 1);
+    }
+    for path in READINGS {
+        each_call(&mut cases, path, 1);
+        let path = flat(path);
+        for grade in [2, 5, 8] {
+            cases.push(draw_case(grade, needed_numbers(&path, grade), &path));
+            cases.push(keep_case(grade, needed(&path, grade), &path));
+        }
+    }
+    refused_paths(&mut cases);
+    refused_stores(&mut cases);
+    changed_lengths(&mut cases);
+    each_byte_damaged(&mut cases);
+    many_vertices(&mut cases);
+    cases
+}
+
+/// A path as draw, keep and store cases, with room exact and one short.
+fn each_call(cases: &mut Vec<String>, path: &[Triple], grade: u32) {
+    let path = flat(path);
+    let room = needed_numbers(&path, grade);
+    cases.push(draw_case(grade, room, &path));
+    cases.push(draw_case(grade, room + 3, &path));
+    cases.push(draw_case(grade, room.saturating_sub(1), &path));
+    let room = needed(&path, grade);
+    cases.push(keep_case(grade, room, &path));
+    cases.push(keep_case(grade, room + 3, &path));
+    cases.push(keep_case(grade, room.saturating_sub(1), &path));
+    let edit = Edit {
+        extra: 40,
+        at: NOWHERE,
+        value: 0,
+        index: 0,
+        vertex: [1, -1, 3],
+    };
+    cases.push(edit_case(grade, &edit, &path));
+    if room == 0 {
+        return;
+    }
+    let store = kept(&path, grade);
+    cases.push(read_case(path.len(), &store));
+    cases.push(read_case(path.len() + 2, &store));
+    cases.push(read_case(path.len().saturating_sub(1), &store));
+    let longer = [store.as_slice(), &[0xEE; 7]].concat();
+    cases.push(read_case(path.len(), &longer));
+    for index in 0..=path.len() / 3 {
+        for vertex in [[0, 0, 0], [2, 1, 4]] {
+            cases.push(replace_case(index as i64, vertex, &store));
+            cases.push(replace_case(index as i64, vertex, &longer));
+        }
+    }
+}
+
+/// Each refusal of draw and keep, alone and before those that come later.
+fn refused_paths(cases: &mut Vec<String>) {
+    let (past, short) = (MOST + 1, -MOST - 1);
+    let paths: [(&[i32], u32); 28] = [
+        (&[0], 1),
+        (&[0, 0], 1),
+        (&[0, 0, 10, 7], 1),
+        (&[0, 0, 10, 7, 7], 0),
+        (&[past, 0, 10, 7], 9),
+        (&[], 0),
+        (&[], 9),
+        (&[0, 0, 10], 0),
+        (&[0, 0, 10], 9),
+        (&[0, 0, 10], 256),
+        (&[0, 0, 10], 257),
+        (&[0, 0, 10], u32::MAX),
+        (&[past, 0, 10], 9),
+        (&[past, 0, 10], 1),
+        (&[short, 0, 10], 1),
+        (&[0, past, 10], 1),
+        (&[0, short, 10], 1),
+        (&[0, 0, past], 1),
+        (&[0, 0, -1], 1),
+        (&[i32::MIN, 0, 0], 1),
+        (&[0, i32::MAX, 0], 1),
+        (&[0, 0, i32::MAX], 1),
+        (&[0, 0, i32::MIN], 1),
+        (&[0, 0, 10, past, 0, 10], 1),
+        (&[0, 0, 10, 50, 0, -1, past, 0, 0], 1),
+        (&[MOST, -MOST, MOST], 1),
+        (&[-MOST, MOST, MOST, MOST, -MOST, MOST], 1),
+        (&[-MOST, MOST, 0, MOST, -MOST, MOST, 0, 0, MOST], 8),
+    ];
+    for (path, grade) in paths {
+        cases.push(draw_case(grade, 0, path));
+        cases.push(draw_case(grade, needed_numbers(path, grade) + 5, path));
+        cases.push(keep_case(grade, 0, path));
+        cases.push(keep_case(grade, needed(path, grade) + 5, path));
+    }
+}
+
+fn bytes(words: &[u32]) -> Vec<u8> {
+    words.iter().flat_map(|word| word.to_le_bytes()).collect()
+}
+
+/// A store with one of its words replaced.
+fn with_word(store: &[u8], place: usize, word: u32) -> Vec<u8> {
+    let mut store = store.to_vec();
+    store[4 * place..4 * place + 4].copy_from_slice(&word.to_le_bytes());
+    store
+}
+
+/// Each refusal of read and replace, alone and before those that come later.
+fn refused_stores(cases: &mut Vec<String>) {
+    let past = MOST as u32 + 1;
+    let sound = kept(&[0, 0, 2, 30, 0, 5], 1);
+    let empty = kept(&[], 1);
+    let lone = kept(&[0, 0, 2], 1);
+    let longer = [sound.as_slice(), &[0; 48]].concat();
+    let edges = (sound.len() as u32 - 56) / 16;
+    let mut stores = vec![
+        vec![],
+        empty[..23].to_vec(),
+        empty.clone(),
+        bytes(&[2, 0, 1, 0, 0]),
+        bytes(&[1, 5, 9, 4097, 0]),
+        bytes(&[2, 5, 9, 4097, 0, 0]),
+        bytes(&[1, 5, 9, 4097, 0, 0]),
+        bytes(&[1, 0, 9, 4097, 0, 0]),
+        bytes(&[1, 0, 8, 4097, 0, 0]),
+        bytes(&[1, 0, 8, 4096, 0, 0]),
+        bytes(&[1, 0, 8, u32::MAX, u32::MAX, 0]),
+        bytes(&[1, 0, 8, 0, u32::MAX, 0]),
+        bytes(&[1, 0, 8, 0, 1 << 28, 0]),
+        bytes(&[1, 0, 8, 1, 0, past, 0, 0, 0]),
+        bytes(&[1, 0, 8, 1, 0, past, 0, 0, 0, 0]),
+        bytes(&[1, 0, 8, 1, 0, 0, 0, 0, 0, 9]),
+        bytes(&[1, 0, 8, 1, 0, 0, 0, 0, 9, 0]),
+        bytes(&[1, 0, 8, 0, 0, 1 << 24]),
+        sound[..sound.len() - 1].to_vec(),
+        sound[..24].to_vec(),
+        [lone.as_slice(), &lone].concat(),
+    ];
+    for word in [0, 2, 257, 1 << 24, u32::MAX] {
+        stores.push(with_word(&sound, 0, word));
+    }
+    for word in [1, 256, 1 << 31, u32::MAX] {
+        stores.push(with_word(&sound, 1, word));
+    }
+    for word in [0, 2, 8, 9, 257, u32::MAX] {
+        stores.push(with_word(&sound, 2, word));
+    }
+    for word in [0, 1, 3, 4096, 4097, 1 << 30, u32::MAX] {
+        stores.push(with_word(&longer, 3, word));
+    }
+    for word in [0, edges - 1, edges + 1, edges + 3, edges + 4, u32::MAX] {
+        stores.push(with_word(&longer, 4, word));
+    }
+    for place in 5..14 {
+        for word in [past, past.wrapping_neg(), past - 1, u32::MAX, 1 << 31] {
+            stores.push(with_word(&sound, place, word));
+        }
+    }
+    // One edge more for one body and one less for the other.
+    let counts = [8, 12, 13].map(|place| {
+        let at = 4 * place;
+        u32::from_le_bytes([sound[at], sound[at + 1], sound[at + 2], sound[at + 3]])
+    });
+    let moved = with_word(&sound, 12, counts[1] - 1);
+    stores.push(with_word(&moved, 13, counts[2] + 1));
+    stores.push(with_word(&moved, 8, counts[0] + 1));
+
+    for store in &stores {
+        cases.push(read_case(6, store));
+        cases.push(replace_case(0, [1, 1, 1], store));
+        cases.push(replace_case(9, [MOST + 1, 0, 0], store));
+    }
+    for room in 0..8 {
+        cases.push(read_case(room, &sound));
+    }
+    for index in [2, 3, 4096, 4294967295, 4294967296, 4294967297, i64::MAX] {
+        cases.push(replace_case(index, [0, 0, 2], &sound));
+        cases.push(replace_case(index, [0, 0, -2], &sound));
+    }
+    cases.push(replace_case(0, [0, 0, 2], &empty));
+    for vertex in [
+        [MOST + 1, 0, 0],
+        [0, -MOST - 1, 0],
+        [0, 0, MOST + 1],
+        [0, 0, -1],
+        [i32::MIN, i32::MIN, i32::MIN],
+        [MOST, -MOST, 0],
+        [MOST, -MOST, MOST],
+    ] {
+        cases.push(replace_case(1, vertex, &sound));
+        cases.push(replace_case(
+            1,
+            vertex,
+            &[sound.as_slice(), &[7; 200]].concat(),
+        ));
+    }
+}
+
+/// Replaced outlines that grow into room, lack one byte of it, or shrink.
+fn changed_lengths(cases: &mut Vec<String>) {
+    let small = [0, 0, 1];
+    let large = [0, 0, 10];
+    let (less, more) = (needed(&small, 1), needed(&large, 1));
+    for extra in [
+        0,
+        more - less - 1,
+        more - less,
+        more - less + 1,
+        more - less + 9,
+    ] {
+        let store = [kept(&small, 1), vec![0xEE; extra]].concat();
+        cases.push(replace_case(0, large, &store));
+        let edit = Edit {
+            extra: extra as i64,
+            at: NOWHERE,
+            value: 0,
+            index: 0,
+            vertex: large,
+        };
+        cases.push(edit_case(1, &edit, &small));
+    }
+    for extra in [0, 1, 9] {
+        let store = [kept(&large, 1), vec![0xEE; extra]].concat();
+        cases.push(replace_case(0, small, &store));
+        cases.push(replace_case(0, [5, 5, 2], &store));
+        cases.push(replace_case(0, large, &store));
+    }
+    let path = flat(EXAMPLES[5]);
+    for index in 0..3 {
+        for vertex in [[20, 0, 5], [20, 5, 5], [0, 0, 0], [20, 0, 40], [21, 0, 1]] {
+            let store = [kept(&path, 1), vec![0xEE; 100]].concat();
+            cases.push(replace_case(index, vertex, &store));
+        }
+    }
+}
+
+/// Small outlines with each of their bytes damaged in turn.
+fn each_byte_damaged(cases: &mut Vec<String>) {
+    for (path, value) in [(EXAMPLES[1], 128), (EXAMPLES[4], 1), (EXAMPLES[9], 255)] {
+        let path = flat(path);
+        for at in 0..needed(&path, 1) + 2 {
+            let edit = Edit {
+                extra: 2,
+                at: at as i64,
+                value,
+                index: 0,
+                vertex: [1, 2, 3],
+            };
+            cases.push(edit_case(1, &edit, &path));
+        }
+    }
+    for (path, value) in [(EXAMPLES[0], 1), (EXAMPLES[0], 255), (EXAMPLES[3], 1)] {
+        let store = kept(&flat(path), 1);
+        for at in 0..store.len().min(48) {
+            let mut store = store.clone();
+            store[at] = store[at].wrapping_add(value);
+            cases.push(read_case(3, &store));
+            cases.push(replace_case(0, [0, 0, 1], &store));
+        }
+    }
+}
+
+/// As many vertices as are allowed, and one more.
+fn many_vertices(cases: &mut Vec<String>) {
+    let path = |count: i32, radius: i32, bend: i32| -> Vec<i32> {
+        let vertex = |i| [50 * i, bend * (i % 3), radius + i % 4];
+        (0..count).flat_map(vertex).collect()
+    };
+    let small = path(4096, 10, 20);
+    let large = path(4096, 100_000_000, 20);
+    for grade in [1, 8] {
+        cases.push(draw_case(grade, 0, &small));
+        cases.push(draw_case(grade, 0, &large));
+        cases.push(keep_case(grade, 0, &large));
+    }
+    cases.push(draw_case(1, needed_numbers(&small, 1), &small));
+    cases.push(keep_case(1, needed(&small, 1), &small));
+    cases.push(draw_case(8, 0, &path(4096, 100_000_000, 0)));
+    let edit = Edit {
+        extra: 500,
+        at: NOWHERE,
+        value: 0,
+        index: 4095,
+        vertex: [0, 0, 77],
+    };
+    cases.push(edit_case(1, &edit, &small));
+    let past = path(4097, 10, 20);
+    for (grade, path) in [
+        (1, &past[..]),
+        (8, &past[..]),
+        (9, &past[..]),
+        (1, &past[1..]),
+    ] {
+        cases.push(draw_case(grade, 0, path));
+        cases.push(keep_case(grade, 0, path));
+    }
+    let mut outside = past.clone();
+    outside[0] = MOST + 1;
+    cases.push(draw_case(1, 0, &outside));
+    outside.truncate(3 * 4096);
+    cases.push(draw_case(1, 0, &outside));
+    outside[0] = 0;
+    outside[3 * 4095 + 2] = -1;
+    cases.push(draw_case(1, 0, &outside));
+    cases.push(keep_case(1, 0, &outside));
+}
+
+/// Most characters of a random case.
+const LONGEST: usize = 15_999;
+
+/// `count` cases that `seed` determines.
+pub fn random(seed: u64, count: usize) -> impl Iterator<Item = String> {
+    let mut maker = Maker {
+        random: Random::new(seed),
+        turn: 0,
+    };
+    (0..count).map(move |_| maker.short_case())
+}
+
+struct Maker {
+    random: Random,
+    /// How many damages in turn were made.
+    turn: usize,
+}
+
+impl Maker {
+    fn short_case(&mut self) -> String {
+        loop {
+            let case = self.case();
+            if case.len() <= LONGEST {
+                return case;
+            }
+        }
+    }
+
+    fn case(&mut self) -> String {
+        match self.random.below(100) {
+            0..20 => self.draw(),
+            20..40 => self.keep(),
+            40..57 => self.read(),
+            57..77 => self.replace(),
+            77..92 => self.edit(),
+            _ => self.damage_in_turn(),
+        }
+    }
+
+    /// Room near what is needed.
+    fn room(&mut self, needed: usize) -> usize {
+        let random = &mut self.random;
+        match random.below(20) {
+            0..6 => needed,
+            6..9 => needed.saturating_sub(1),
+            9 => needed.saturating_sub(random.below(5) as usize),
+            10..12 => 0,
+            12..17 => needed + random.below(10) as usize,
+            17 => needed + random.below(300) as usize,
+            _ => random.below(needed as u64 + 1) as usize,
+        }
+    }
+
+    fn grade(&mut self) -> u32 {
+        match self.random.below(100) {
+            0..35 => 1,
+            35..97 => self.random.between(1, 8) as u32,
+            _ => self.random.pick(&[0, 9, 255, 256, 257, u32::MAX]),
+        }
+    }
+
+    fn vertex(&mut self, side: i64, radius: i64) -> Triple {
+        let random = &mut self.random;
+        let x = random.between(-side, side) as i32;
+        let y = random.between(-side, side) as i32;
+        [x, y, random.between(0, radius) as i32]
+    }
+
+    /// A vertex at the ends of the limits.
+    fn corner(&mut self) -> Triple {
+        let sides = [-MOST, 1 - MOST, -1, 0, 1, MOST - 1, MOST];
+        let radii = [0, 1, 2, MOST / 2, MOST - 1, MOST];
+        let (x, y) = (self.random.pick(&sides), self.random.pick(&sides));
+        [x, y, self.random.pick(&radii)]
+    }
+
+    /// A vertex that may lie just past the limits.
+    fn any_vertex(&mut self) -> Triple {
+        let mut vertex = match self.random.below(10) {
+            0..6 => self.vertex(30, 12),
+            6 => self.vertex(4, 3),
+            7 => self.vertex(1000, 300),
+            8 => self.vertex(LIMIT, LIMIT),
+            _ => self.corner(),
+        };
+        if self.random.chance(6) {
+            self.spoil(&mut vertex);
+        }
+        vertex
+    }
+
+    /// Moves a vertex past the limits.
+    fn spoil(&mut self, vertex: &mut Triple) {
+        let random = &mut self.random;
+        let place = random.below(3) as usize;
+        vertex[place] = match place {
+            2 => random.pick(&[-1, -2, -MOST, MOST + 1, i32::MAX, i32::MIN]),
+            _ => random.pick(&[MOST + 1, -MOST - 1, i32::MAX, i32::MIN]),
+        };
+    }
+
+    /// Vertices on a line, ahead and back, of much the same radius.
+    fn run(&mut self, count: usize) -> Vec<Triple> {
+        let random = &mut self.random;
+        let (dx, dy) = (random.between(-5, 5), random.between(-5, 5));
+        let radius = random.between(0, 12);
+        let mut place = random.between(-4, 4);
+        let mut path = Vec::new();
+        for _ in 0..count {
+            let change = random.pick(&[0, 0, 0, 0, 1, -1]);
+            let radius = (radius + change).max(0);
+            path.push([(dx * place) as i32, (dy * place) as i32, radius as i32]);
+            place += random.pick(&[1, 1, 1, 2, 3, 0, -1, -2]);
+        }
+        path
+    }
+
+    /// Wide sections and small circles between their ends.
+    fn cover(&mut self, count: usize) -> Vec<Triple> {
+        let mut path: Vec<Triple> = Vec::new();
+        for place in 0..count {
+            let vertex = if place % 3 < 2 {
+                self.vertex(60, 25)
+            } else {
+                let ([ax, ay, _], [bx, by, _]) = (path[place - 2], path[place - 1]);
+                let part = self.random.between(0, 4) as i32;
+                let [dx, dy, radius] = self.vertex(3, 8);
+                let (x, y) = (ax + (bx - ax) * part / 4, ay + (by - ay) * part / 4);
+                [x + dx, y + dy, radius]
+            };
+            path.push(vertex);
+        }
+        path
+    }
+
+    /// Wide circles that all but lie on one another, on a line, their radii
+    /// in proportion: there rays differ where their directions do not.
+    fn pile(&mut self, count: usize) -> Vec<Triple> {
+        let random = &mut self.random;
+        let radius = random.between(LIMIT / 4, LIMIT - 20_000);
+        let (dx, dy) = random.pick(&[(0, 1), (1, 0), (0, -1), (-1, 0), (1, 1), (2, -1)]);
+        let spread = random.between(2, 50);
+        let slope = random.between(1 - spread, spread - 1);
+        let mut place = 0;
+        let mut path = Vec::new();
+        for _ in 0..count {
+            let (x, y) = (dx * spread * place, dy * spread * place);
+            path.push([x, y, radius + slope * place].map(|n| n as i32));
+            place += random.pick(&[1, 1, 2, 3, 5, 8, -1]);
+        }
+        path
+    }
+
+    /// A path inside the limits.
+    fn sound_path(&mut self) -> Vec<Triple> {
+        let count = match self.random.below(100) {
+            0..4 => 0,
+            4..12 => 1,
+            12..62 => self.random.between(2, 4),
+            62..93 => self.random.between(5, 9),
+            _ => self.random.between(10, 40),
+        } as usize;
+        let style = self.random.below(100);
+        let mut path: Vec<Triple> = match style {
+            0..36 => (0..count).map(|_| self.vertex(30, 12)).collect(),
+            36..40 => self.pile(count),
+            40..52 => (0..count).map(|_| self.vertex(4, 3)).collect(),
+            52..65 => self.run(count),
+            65..77 => self.cover(count),
+            77..83 => (0..count).map(|_| self.vertex(1000, 300)).collect(),
+            83..88 => (0..count).map(|_| self.vertex(LIMIT, LIMIT)).collect(),
+            88..92 => (0..count).map(|_| self.vertex(LIMIT, 1000)).collect(),
+            92..95 => (0..count).map(|_| self.vertex(300, LIMIT)).collect(),
+            _ => (0..count).map(|_| self.corner()).collect(),
+        };
+        for place in 1..count {
+            let [x, y, radius] = path[place - 1];
+            match self.random.below(40) {
+                0 => path[place] = [x, y, radius],
+                1 => path[place] = [x, y, path[place][2]],
+                2 => path[place] = [path[place][0], y, radius],
+                _ => (),
+            }
+        }
+        path
+    }
+
+    /// A path that may be refused, as lent numbers.
+    fn path(&mut self) -> Vec<i32> {
+        let mut path = self.sound_path();
+        if !path.is_empty() && self.random.chance(7) {
+            let place = self.random.below(path.len() as u64) as usize;
+            self.spoil(&mut path[place]);
+        }
+        let mut path = flat(&path);
+        match self.random.below(60) {
+            0 => path.push(3),
+            1 => path.extend([3, 3]),
+            2 => drop(path.pop()),
+            _ => (),
+        }
+        path
+    }
+
+    fn draw(&mut self) -> String {
+        let (path, grade) = (self.path(), self.grade());
+        let needed = needed_numbers(&path, grade);
+        draw_case(grade, self.room(needed), &path)
+    }
+
+    fn keep(&mut self) -> String {
+        let (path, grade) = (self.path(), self.grade());
+        let needed = needed(&path, grade);
+        keep_case(grade, self.room(needed), &path)
+    }
+
+    /// An outline short enough to be written as a case, and its path.
+    fn store(&mut self) -> (Vec<Triple>, u32, Vec<u8>) {
+        loop {
+            let (path, grade) = (self.sound_path(), self.random.between(1, 8) as u32);
+            let grade = if self.random.chance(60) { 1 } else { grade };
+            let length = needed(&flat(&path), grade);
+            let most = self.random.pick(&[200, 600, 1200, 3800]);
+            if length <= most {
+                let store = kept(&flat(&path), grade);
+                return (path, grade, store);
+            }
+        }
+    }
+
+    /// A byte or a word of a store changed, or its end cut.
+    fn damage(&mut self, store: &mut Vec<u8>) {
+        let vertices = u32::from_le_bytes([store[12], store[13], store[14], store[15]]);
+        let edges = u32::from_le_bytes([store[16], store[17], store[18], store[19]]);
+        let places = store.len() as u64 / 4;
+        let random = &mut self.random;
+        let (place, word) = match random.below(13) {
+            0..3 => {
+                let at = random.below(store.len() as u64) as usize;
+                store[at] = store[at].wrapping_add(random.between(1, 255) as u8);
+                return;
+            }
+            3 => {
+                store.truncate(random.below(store.len() as u64) as usize);
+                return;
+            }
+            4 => {
+                store.truncate(random.pick(&[0, 4, 23, 24, store.len() - 1]));
+                return;
+            }
+            5 => (0, random.pick(&[0, 2, 257, u32::MAX])),
+            6 => (1, random.pick(&[1, 2, 1 << 16, 1 << 31])),
+            7 => (2, random.pick(&[0, 1, 2, 8, 9, 256, u32::MAX])),
+            8 => {
+                let choices = [vertices + 1, vertices.max(1) - 1, 4096, 4097, u32::MAX];
+                (3, random.pick(&choices))
+            }
+            9 => {
+                let choices = [edges + 1, edges.max(1) - 1, edges + 2, 0, u32::MAX];
+                (4, random.pick(&choices))
+            }
+            10 if vertices > 0 => {
+                let past = MOST as u32 + 1;
+                let place = 5 + 4 * random.below(vertices as u64) + random.below(3);
+                let words = [past, past.wrapping_neg(), 1 << 31, u32::MAX, 0, 1];
+                (place as usize, random.pick(&words))
+            }
+            11 if vertices > 0 => {
+                let place = 8 + 4 * random.below(vertices as u64);
+                (place as usize, random.below(12) as u32)
+            }
+            _ => (random.below(places) as usize, random.below(30) as u32),
+        };
+        *store = with_word(store, place, word);
+    }
+
+    /// Bytes after an outline.
+    fn lengthen(&mut self, store: &mut Vec<u8>, count: usize) {
+        for _ in 0..count {
+            store.push(self.random.pick(&[0, 0xEE, store.len() as u8]));
+        }
+    }
+
+    fn read(&mut self) -> String {
+        let (path, _, mut store) = self.store();
+        let more = self.random.pick(&[0, 0, 0, 1, 5, 16, 40]);
+        if self.random.chance(55) {
+            self.damage(&mut store);
+        }
+        self.lengthen(&mut store, more);
+        let room = self.room(3 * path.len());
+        read_case(room, &store)
+    }
+
+    /// An index that is mostly below `count`.
+    fn index(&mut self, count: usize) -> i64 {
+        let random = &mut self.random;
+        match random.below(20) {
+            0 => count as i64,
+            1 => random.pick(&[count as i64 + 1, 4096, 4294967296, i64::MAX]),
+            _ => random.below(count.max(1) as u64) as i64,
+        }
+    }
+
+    /// A vertex in the place of `old`: anywhere, or `old` a little changed.
+    fn replacement(&mut self, old: Option<&Triple>) -> Triple {
+        let [dx, dy, radius] = self.vertex(2, 6);
+        match old {
+            Some(&[x, y, r]) if self.random.chance(40) => {
+                let r = self.random.pick(&[r, r, radius, 0]);
+                [x + dx, y + dy, r]
+            }
+            _ => self.any_vertex(),
+        }
+    }
+
+    /// How many bytes a replaced outline grows by, 0 if it does not.
+    fn growth(&self, path: &[Triple], grade: u32, index: i64, vertex: Triple) -> usize {
+        let old = needed(&flat(path), grade);
+        let mut path = path.to_vec();
+        if let Some(place) = path.get_mut(index as usize) {
+            *place = vertex;
+        }
+        needed(&flat(&path), grade).saturating_sub(old)
+    }
+
+    fn replace(&mut self) -> String {
+        let (path, grade, mut store) = self.store();
+        let index = self.index(path.len());
+        let vertex = self.replacement(path.get(index as usize));
+        let growth = self.growth(&path, grade, index, vertex);
+        if self.random.chance(25) {
+            self.damage(&mut store);
+        }
+        let more = self.room(growth);
+        self.lengthen(&mut store, more);
+        replace_case(index, vertex, &store)
+    }
+
+    fn edit(&mut self) -> String {
+        let grade = self.grade();
+        let path = if self.random.chance(85) {
+            self.sound_path()
+        } else {
+            self.path()
+                .chunks_exact(3)
+                .map(|n| [n[0], n[1], n[2]])
+                .collect()
+        };
+        let index = self.index(path.len());
+        let vertex = self.replacement(path.get(index as usize));
+        let growth = self.growth(&path, grade, index, vertex);
+        let extra = self.room(growth);
+        let length = needed(&flat(&path), grade) + extra;
+        let (at, value) = match self.random.below(10) {
+            0..6 => (NOWHERE, 0),
+            6 => (length as i64, 1),
+            _ => {
+                let at = self.random.below(length as u64 + 1);
+                (at as i64, self.random.pick(&[1, 255, 128, 256, 77]))
+            }
+        };
+        let edit = Edit {
+            extra: extra as i64,
+            at,
+            value,
+            index,
+            vertex,
+        };
+        let mut path = flat(&path);
+        if self.random.chance(1) {
+            path.pop();
+        }
+        edit_case(grade, &edit, &path)
+    }
+
+    /// Small outlines with each of their bytes damaged in turn.
+    fn damage_in_turn(&mut self) -> String {
+        let paths = [
+            READINGS[0],
+            EXAMPLES[1],
+            READINGS[1],
+            EXAMPLES[0],
+            EXAMPLES[9],
+        ];
+        let mut at = self.turn;
+        self.turn += 1;
+        let lengths = paths.map(|path| needed(&flat(path), 1));
+        at %= lengths.iter().sum::<usize>();
+        let mut path = 0;
+        while at >= lengths[path] {
+            at -= lengths[path];
+            path += 1;
+        }
+        let edit = Edit {
+            extra: self.random.pick(&[0, 1, 200]),
+            at: at as i64,
+            value: self.random.between(1, 255),
+            index: self.index(paths[path].len()),
+            vertex: self.any_vertex(),
+        };
+        edit_case(1, &edit, &flat(paths[path]))
+    }
+}
+
+#[cfg(test)]
+mod tests {
+    use super::*;
+    use plain::contacts::Vertex;
+
+    #[test]
+    fn sound_paths_lie_inside_the_limits() {
+        let mut maker = Maker {
+            random: Random::new(5),
+            turn: 0,
+        };
+        for _ in 0..2_000 {
+            for [x, y, radius] in maker.sound_path() {
+                assert!(Vertex::new(x as i64, y as i64, radius as i64).allowed());
+            }
+        }
+    }
+}

@@ -1,0 +1,215 @@
+//! Document 01, "Chains".
+
+use crate::arcs::{arc, circle, edge, Edge, Sweep};
+use crate::contacts::{kind, Kind, Section, Trend, Vertex};
+use crate::numbers::{step_of_grade, Point};
+
+/// Chains: a cap "is Butt or Round".
+#[derive(Clone, Copy, Debug, PartialEq, Eq)]
+pub enum Cap {
+    Butt,
+    Round,
+}
+
+/// Chains, start cap: "Butt is a_left to a_right; Round is an arc that way,
+/// Major if aligned and decreasing, else Minor."
+pub fn start_cap(out: &mut Vec<Edge>, step: Point, section: &Section, cap: Cap) {
+    let (from, to) = (section.a_left, section.a_right);
+    let aligned = if section.trend == Trend::Decreasing {
+        Sweep::Major
+    } else {
+        Sweep::Minor
+    };
+    match cap {
+        Cap::Butt => edge(out, from, to),
+        Cap::Round => {
+            let (centre, radius) = (section.a.centre(), section.a.radius);
+            arc(out, step, centre, radius, from, to, aligned);
+        }
+    }
+}
+
+/// Chains, end cap: "b_right to b_left, Major if aligned and increasing."
+pub fn end_cap(out: &mut Vec<Edge>, step: Point, section: &Section, cap: Cap) {
+    let (from, to) = (section.b_right, section.b_left);
+    let aligned = if section.trend == Trend::Increasing {
+        Sweep::Major
+    } else {
+        Sweep::Minor
+    };
+    match cap {
+        Cap::Butt => edge(out, from, to),
+        Cap::Round => {
+            let (centre, radius) = (section.b.centre(), section.b.radius);
+            arc(out, step, centre, radius, from, to, aligned);
+        }
+    }
+}
+
+/// Chains, join: "if the two centres differ, end cap Butt and start cap Butt.
+/// Else, with left and right vectors from a-contact to b-contact, left first:
+/// next.a_left to prev.b_left, an arc (Minor if aligned) when next left × prev
+/// left > 0 or prev × next centre line < 0, else an edge. Then prev.b_right to
+/// next.a_right, an arc (Major if aligned) when prev right × next right > 0 or
+/// prev × next centre line ≥ 0, else an edge."
+///
+/// Both arcs stand about prev's b. Where centres are equal but radii are
+/// not, thin steps lie between and one radius is 0: an end is at the centre
+/// and no arc shows which radius was taken.
+pub fn join(out: &mut Vec<Edge>, step: Point, prev: &Section, next: &Section) {
+    let centre = prev.b.centre();
+    if centre != next.a.centre() {
+        end_cap(out, step, prev, Cap::Butt);
+        start_cap(out, step, next, Cap::Butt);
+        return;
+    }
+    let radius = prev.b.radius;
+    let prev_left = prev.b_left - prev.a_left;
+    let prev_right = prev.b_right - prev.a_right;
+    let next_left = next.b_left - next.a_left;
+    let next_right = next.b_right - next.a_right;
+    let bend = (centre - prev.a.centre()).cross(next.b.centre() - centre);
+
+    let (from, to) = (next.a_left, prev.b_left);
+    if next_left.cross(prev_left) > 0 || bend < 0 {
+        arc(out, step, centre, radius, from, to, Sweep::Minor);
+    } else {
+        edge(out, from, to);
+    }
+    let (from, to) = (prev.b_right, next.a_right);
+    if prev_right.cross(next_right) > 0 || bend >= 0 {
+        arc(out, step, centre, radius, from, to, Sweep::Major);
+    } else {
+        edge(out, from, to);
+    }
+}
+
+/// Chains: "A chain holds its start vertex, a start cap that is Butt or Round,
+/// the last drawn section if there is one, and a mark that a step was made."
+#[derive(Clone, Copy, Debug, PartialEq, Eq)]
+pub struct Chain {
+    pub start: Vertex,
+    pub cap: Cap,
+    pub last: Option<Section>,
+    pub marked: bool,
+}
+
+impl Chain {
+    /// A chain that has only its start.
+    pub fn start(start: Vertex, cap: Cap) -> Chain {
+        Chain {
+            start,
+            cap,
+            last: None,
+            marked: false,
+        }
+    }
+
+    /// Chains: "edges b_left to a_left, a_right to b_right; then a join to the
+    /// chain's last section, or the start cap."
+    pub fn draw(&mut self, out: &mut Vec<Edge>, step: Point, section: Section) {
+        edge(out, section.b_left, section.a_left);
+        edge(out, section.a_right, section.b_right);
+        match &self.last {
+            Some(last) => join(out, step, last, &section),
+            None => start_cap(out, step, &section, self.cap),
+        }
+        self.last = Some(section);
+    }
+
+    /// Chains, finish: "the end cap if there is a last section; otherwise a
+    /// circle at the start vertex if no step was marked and not both caps are
+    /// Butt."
+    pub fn finish(&self, out: &mut Vec<Edge>, step: Point, cap: Cap) {
+        if let Some(last) = &self.last {
+            end_cap(out, step, last, cap);
+        } else if !self.marked && (self.cap, cap) != (Cap::Butt, Cap::Butt) {
+            circle(out, step, self.start.centre(), self.start.radius);
+        }
+    }
+}
+
+/// Chains, broken: "If ra ≥ rb, finish Round and start Butt; else finish Butt
+/// and start Round."
+pub fn caps_of_a_break(a: Vertex, b: Vertex) -> (Cap, Cap) {
+    if a.radius >= b.radius {
+        (Cap::Round, Cap::Butt)
+    } else {
+        (Cap::Butt, Cap::Round)
+    }
+}
+
+/// Chains, not broken: "the larger radius of the previous step exceeds rb, and
+/// the previous step was drawn and its quadrilateral covers b's circle".
+/// `previous` is the previous step's section if that step was drawn.
+pub fn covered(previous: Option<&Section>, b: Vertex) -> bool {
+    previous.is_some_and(|section| section.larger_radius() > b.radius && section.covers_circle(b))
+}
+
+/// All edges of a path in order, and how many of them each body has: one count
+/// for each vertex, the edges emitted on reaching it, and one for the closing
+/// body.
+#[derive(Clone, Debug, Default, PartialEq, Eq)]
+pub struct Drawing {
+    pub edges: Vec<Edge>,
+    pub counts: Vec<u32>,
+}
+
+/// Chains: "The first chain starts Round at the first vertex. For each next
+/// vertex b: … At the end, finish with the closing cap."
+pub fn walk(path: &[Vertex], grade: u32) -> Drawing {
+    let step = step_of_grade(grade);
+    let mut edges = Vec::new();
+    let mut counts = Vec::with_capacity(path.len() + 1);
+    let mut counted = 0;
+    let mut count = |edges: &Vec<Edge>| {
+        counts.push((edges.len() - counted) as u32);
+        counted = edges.len();
+    };
+    if let Some(&first) = path.first() {
+        count(&edges);
+        let mut chain = Chain::start(first, Cap::Round);
+        let mut previous = None;
+        let mut closing = Cap::Round;
+        for (&a, &b) in path.iter().zip(&path[1..]) {
+            let kind = kind(a, b);
+            let mut drawn = None;
+            closing = Cap::Round;
+            if kind == Kind::Broken {
+                let (end, start) = caps_of_a_break(a, b);
+                chain.finish(&mut edges, step, end);
+                chain = Chain::start(b, start);
+            } else {
+                if covered(previous.as_ref(), b) {
+                    chain.finish(&mut edges, step, Cap::Round);
+                    chain = Chain::start(a, Cap::Butt);
+                    closing = Cap::Butt;
+                }
+                chain.marked = true;
+                if kind == Kind::Drawn {
+                    let section = Section::new(a, b);
+                    chain.draw(&mut edges, step, section);
+                    drawn = Some(section);
+                }
+            }
+            previous = drawn;
+            count(&edges);
+        }
+        chain.finish(&mut edges, step, closing);
+    }
+    count(&edges);
+    Drawing { edges, counts }
+}
+
+/// The bodies of a path: for each vertex the edges emitted on reaching it, and
+/// last the closing body.
+pub fn bodies(path: &[Vertex], grade: u32) -> Vec<Vec<Edge>> {
+    let Drawing { edges, counts } = walk(path, grade);
+    let mut rest = edges.as_slice();
+    let next = |count: u32| {
+        let (body, after) = rest.split_at(count as usize);
+        rest = after;
+        body.to_vec()
+    };
+    counts.into_iter().map(next).collect()
+}

@@ -1,0 +1,20 @@
+//! The variable-width stroke, written plainly from document 01.
+//!
+//! One function for each rule, in the document's order. Nothing here is
+//! clever: it is the yardstick against which other programs are measured.
+//!
+//! * [`numbers`] holds "Numbers underneath"
+//! * [`contacts`] holds "Contacts", "Three kinds of step" and covering
+//! * [`arcs`] holds "Arcs"
+//! * [`chains`] holds "Chains"
+//! * [`outline`] holds "The kept outline"
+//! * [`calls`] holds the four calls and "Replies, tested in this order"
+//! * [`random`] holds the generator behind the tests and the lists of cases
+
+pub mod arcs;
+pub mod calls;
+pub mod chains;
+pub mod contacts;
+pub mod numbers;
+pub mod outline;
+pub mod random;

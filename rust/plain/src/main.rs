@@ -1,0 +1,69 @@
+//! Lists of cases and their answers, one case and one answer a line.
+
+mod answers;
+mod cases;
+
+use std::io::{self, BufRead, BufWriter, Write};
+use std::process::ExitCode;
+
+const USAGE: &str = "\
+plain numbers < cases > answers
+plain numbers-cases
+plain arcs < cases > answers
+plain arcs-cases
+plain calls < cases > answers
+plain calls-cases SEED COUNT (0 0 prints the fixed list)";
+
+/// Answers each line of the standard input.
+fn answer(answer: impl Fn(&[i128]) -> Option<String>) -> io::Result<()> {
+    let mut out = BufWriter::new(io::stdout().lock());
+    for (line, text) in io::stdin().lock().lines().enumerate() {
+        let numbers: Option<Vec<i128>> = text?
+            .split_whitespace()
+            .map(|word| word.parse().ok())
+            .collect();
+        let Some(answer) = numbers.and_then(|case| answer(&case)) else {
+            let message = format!("line {} is no case", line + 1);
+            return Err(io::Error::new(io::ErrorKind::InvalidData, message));
+        };
+        writeln!(out, "{answer}")?;
+    }
+    out.flush()
+}
+
+/// Prints a list of cases.
+fn print(cases: impl IntoIterator<Item = String>) -> io::Result<()> {
+    let mut out = BufWriter::new(io::stdout().lock());
+    for case in cases {
+        writeln!(out, "{case}")?;
+    }
+    out.flush()
+}
+
+fn run(words: &[&str]) -> Option<io::Result<()>> {
+    Some(match words {
+        ["numbers"] => answer(answers::numbers),
+        ["numbers-cases"] => print(cases::numbers::list()),
+        ["arcs"] => answer(answers::arcs),
+        ["arcs-cases"] => print(cases::arcs::list()),
+        ["calls"] => answer(answers::calls),
+        ["calls-cases", "0", "0"] => print(cases::calls::fixed()),
+        ["calls-cases", seed, count] => print(cases::calls::random(
+            seed.parse().ok()?,
+            count.parse().ok()?,
+        )),
+        _ => return None,
+    })
+}
+
+fn main() -> ExitCode {
+    let words: Vec<String> = std::env::args().skip(1).collect();
+    let words: Vec<&str> = words.iter().map(String::as_str).collect();
+    let message = match run(&words) {
+        Some(Ok(())) => return ExitCode::SUCCESS,
+        Some(Err(error)) => error.to_string(),
+        None => USAGE.to_string(),
+    };
+    eprintln!("{message}");
+    ExitCode::FAILURE
+}

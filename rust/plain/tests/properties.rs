@@ -1,0 +1,180 @@
+//! What must hold for every path, tried on many.
+
+mod common;
+
+use common::{kept, numbers, random_path, random_scale, random_vertex, vertices};
+use plain::calls::{draw, keep, read, replace, Reply};
+use plain::chains::bodies;
+use plain::contacts::{kind, Kind};
+use plain::random::Random;
+
+#[test]
+fn draw_and_keep_hold_the_bodies() {
+    let mut random = Random::new(11);
+    for _ in 0..3_000 {
+        let path = random_path(&mut random, 7);
+        let grade = random.between(1, 8) as u32;
+        let bodies = bodies(&vertices(&path), grade);
+        let edges: Vec<i32> = bodies.concat().concat();
+        let mut room = vec![9; edges.len() + 5];
+        let drawn = draw(&numbers(&path), grade, &mut room);
+        assert_eq!(drawn, Reply::new(0, edges.len() as u64 / 4));
+        assert_eq!(room[..edges.len()], edges);
+        assert_eq!(room[edges.len()..], [9; 5]);
+
+        let mut words = vec![1, 0, grade, path.len() as u32, edges.len() as u32 / 4];
+        for (&(x, y, r), body) in path.iter().zip(&bodies) {
+            words.extend([x as u32, y as u32, r as u32, body.len() as u32]);
+        }
+        words.push(bodies[path.len()].len() as u32);
+        words.extend(edges.iter().map(|&number| number as u32));
+        let bytes: Vec<u8> = words.iter().flat_map(|word| word.to_le_bytes()).collect();
+        assert_eq!(kept(&path, grade), bytes);
+    }
+}
+
+#[test]
+fn an_outline_reads_back() {
+    let mut random = Random::new(12);
+    for _ in 0..3_000 {
+        let path = random_path(&mut random, 7);
+        let grade = random.between(1, 8) as u32;
+        let mut store = kept(&path, grade);
+        store.extend((0..random.below(9)).map(|i| i as u8));
+        let mut room = vec![9; 3 * path.len() + 4];
+        let expected = Reply {
+            reply: 0,
+            number: path.len() as u64,
+            grade,
+        };
+        assert_eq!(read(&store, &mut room), expected);
+        assert_eq!(room[..3 * path.len()], numbers(&path));
+        assert_eq!(room[3 * path.len()..], [9; 4]);
+        if !path.is_empty() {
+            room.truncate(3 * path.len() - 1);
+            let short = read(&store, &mut room);
+            assert_eq!(short, Reply::new(5, path.len() as u64));
+        }
+    }
+}
+
+#[test]
+fn replacing_equals_keeping_the_changed_path() {
+    let mut random = Random::new(13);
+    for _ in 0..3_000 {
+        let mut path = random_path(&mut random, 7);
+        if path.is_empty() {
+            continue;
+        }
+        let grade = random.between(1, 6) as u32;
+        let old = kept(&path, grade);
+        let (side, radius) = random_scale(&mut random);
+        let index = random.below(path.len() as u64) as usize;
+        path[index] = random_vertex(&mut random, side, radius);
+        let new = kept(&path, grade);
+        let (x, y, r) = path[index];
+
+        let mut store = old.clone();
+        let longest = old.len().max(new.len());
+        store.resize(longest + 3, 0xEE);
+        let reply = replace(&mut store, index, x, y, r);
+        assert_eq!(reply, Reply::new(0, new.len() as u64));
+        assert_eq!(store[..new.len()], new);
+        let shrunk = new.len()..old.len().max(new.len());
+        assert!(store[shrunk.clone()].iter().all(|&byte| byte == 0));
+        assert!(store[shrunk.end..].iter().all(|&byte| byte == 0xEE));
+
+        if new.len() > old.len() {
+            let mut store = old.clone();
+            store.resize(new.len() - 1, 0xEE);
+            let before = store.clone();
+            let reply = replace(&mut store, index, x, y, r);
+            assert_eq!(reply, Reply::new(5, new.len() as u64));
+            assert_eq!(store, before);
+        }
+    }
+}
+
+/// Where replacing vertex k stops to show. Bodies before k stand before it is
+/// reached. Let j be the first vertex from k + 2 on whose step is not thin:
+/// after j the chain goes by vertices behind k alone, so bodies after j are
+/// the same. The closing body is among them, unless j is the last vertex and
+/// the step before it starts at k, which may then cover it.
+#[test]
+fn replacing_shows_only_near_by() {
+    let mut random = Random::new(14);
+    let mut compared = 0;
+    for _ in 0..20_000 {
+        let path = random_path(&mut random, 9);
+        if path.is_empty() {
+            continue;
+        }
+        let n = path.len();
+        let grade = random.between(1, 3) as u32;
+        let k = random.below(n as u64) as usize;
+        let mut other = path.clone();
+        let (side, radius) = random_scale(&mut random);
+        other[k] = random_vertex(&mut random, side, radius);
+
+        let (path, other) = (vertices(&path), vertices(&other));
+        let (old, new) = (bodies(&path, grade), bodies(&other, grade));
+        assert_eq!(old[..k], new[..k]);
+        let kind = |j: usize| kind(path[j - 1], path[j]);
+        let Some(j) = (k + 2..n).find(|&j| kind(j) != Kind::Thin) else {
+            continue;
+        };
+        compared += 1;
+        assert_eq!(old[j + 1..n], new[j + 1..n]);
+        if j + 1 < n || j > k + 2 || kind(j) == Kind::Broken {
+            assert_eq!(old[n], new[n]);
+        }
+    }
+    assert!(compared > 5_000);
+}
+
+#[test]
+fn bodies_stay_below_the_measured_most() {
+    let mut random = Random::new(15);
+    let half_turn = [3, 6, 12, 25, 50, 100, 201, 402];
+    for _ in 0..3_000 {
+        let path = vertices(&random_path(&mut random, 7));
+        let grade = random.between(1, 8) as u32;
+        let most = 4 * half_turn[grade as usize - 1] + 8;
+        for body in bodies(&path, grade) {
+            assert!(body.len() <= most);
+            for [ax, ay, bx, by] in body {
+                assert!((ax, ay) != (bx, by));
+                assert!([ax, ay, bx, by].iter().all(|c| c.abs() <= 1 << 29));
+            }
+        }
+    }
+}
+
+#[test]
+fn refusals_change_nothing() {
+    let mut random = Random::new(16);
+    for _ in 0..3_000 {
+        let path = random_path(&mut random, 5);
+        let grade = random.between(1, 3) as u32;
+        let lent = numbers(&path);
+        let mut store = kept(&path, grade);
+        let mut room = vec![7; random.below(store.len() as u64) as usize];
+        let before = room.clone();
+        assert_eq!(keep(&lent, grade, &mut room).reply, 5);
+        assert_eq!(room, before);
+
+        let at = random.below(store.len() as u64) as usize;
+        store[at] ^= 1 << random.below(8);
+        let before = store.clone();
+        let reply = replace(&mut store, 0, 1, 2, 3);
+        if reply.reply != 0 {
+            assert_eq!(store, before);
+        }
+        let mut room = vec![7; lent.len()];
+        let reply = read(&before, &mut room);
+        if reply.reply != 0 {
+            assert!(room.iter().all(|&number| number == 7));
+            assert_eq!(reply.grade, 0);
+        }
+    }
+}
