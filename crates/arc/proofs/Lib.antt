@@ -1,2 +1,7 @@
 -- The crate's own laws.
 pub mod Most
+pub mod Stored
+pub mod Limits
+pub mod Rays
+pub mod Cases
+pub mod Reach

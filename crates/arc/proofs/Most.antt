@@ -1,11 +1,11 @@
 -- How many edges an arc can have, from the count of its rotations. Assumes nothing.
 use mathlib.Core.Bool.{Bool, true, false}
-use mathlib.Core.List.{List, [], _∷_, _++_}
+use mathlib.Core.List.{List, [], _++_}
 use Prim.Native.Nat.{ℕ, zero, suc, _+_, _≤_}
 use native.Mathlib.Nat.{le-trans}
 use native.Mathlib.Omega.{arith}
 use lib.IntN.{ℤ, pos}
-use lib.ListN.{length, length-append}
+use lib.ListN.{length-append}
 use lib.Signed.{leZ}
 use Rattle.plane.specs.Vectors.{samePoint, fromTo}
 use Rattle.plane.specs.Directions.{directionOf, rotatedOf, scaledOf}

@@ -2,6 +2,12 @@
 use plane::Point;
 use plane::Vector;
 
+pub mod arcs;
+pub mod circle;
+pub mod edges;
+pub mod kinds;
+pub mod turn;
+
 // An edge, from a to b.
 pub struct Edge {
     pub a: Point,

@@ -13,9 +13,9 @@ use Rattle.variable_stroke.specs.Contacts.{centreOf, lineOf, deltaOf, shiftOf, 
 use Rattle.variable_stroke.specs.Covering.{turnOf, inwardOf, insideOf, coversOf, coveredOf}
 use Rattle.variable_stroke.specs.Joins.{innerOf, arcAbout, startChoice, startCap, endChoice, endCap, alongOf, bendOf, leftTurns, leftJoin, rightTurns, rightJoin, sameCentre, gapOf, joinOf}
 use Rattle.variable_stroke.specs.Chains.{freshOf, bothButt, loneOf, finishLast, finishOf, meetLast, drawnOf, breakEnd, breakStart, leaveEdges, leaveChain, leaveClosing, markedOf, emittedOf, nextChain, nextLast, nextClosing, nextOf, startOf}
-use Rattle.variable_stroke.specs.Paths.{bodiesFrom, bodiesAt, bodiesOf, joined, edgesOf}
+use Rattle.variable_stroke.specs.Paths.{pathOf, bodiesFrom, bodiesAt, bodiesOf, joined, edgesOf}
 use Rattle.outline.specs.Words.{wordOf, wordsOf, fourBytes, bytesOf, headerOf, entryOf, tableOf, bodyWords, wordsWith, outlineWords, outlineBytes}
-use Rattle.outline.specs.Replies.{pathOf, firstRow, triplesRow, gradeRow, countRow, outsideRow, roomRow, pathRows, drawReply}
+use Rattle.outline.specs.Replies.{firstRow, triplesRow, gradeRow, countRow, outsideRow, roomRow, pathRows, drawReply}
 use Rattle.outline.specs.Examples.{ExamplesHold, minus, plain, bytes, words, lengths, counts, edges, reply, examples, further, answersOf, answersTold}
 
 pub examples-hold : ExamplesHold

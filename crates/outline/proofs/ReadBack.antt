@@ -19,13 +19,13 @@ use Rattle.arc.specs.Edges.{edgeNumbers}
 use Rattle.arc.specs.declared.Edge.{Edge}
 use Rattle.variable_stroke.specs.Limits.{allowedOf, firstOutside}
 use Rattle.variable_stroke.specs.Chains.{nextOf, startOf}
-use Rattle.variable_stroke.specs.Paths.{bodiesFrom, bodiesAt, bodiesOf, joined, edgesOf}
+use Rattle.variable_stroke.specs.Paths.{vertexNumbers, pathNumbers, bodiesFrom, bodiesAt, bodiesOf, joined, edgesOf}
 use Rattle.variable_stroke.proofs.Most.{edges-most}
 use Rattle.variable_stroke.specs.declared.Vertex.{Vertex}
 use Rattle.variable_stroke.specs.declared.Walk.{Walk}
 use Rattle.outline.specs.Words.{wordOf, numberOf, wordsOf, fourBytes, bytesOf, headerOf, entryOf, tableOf, bodyWords, wordsWith, outlineWords, outlineBytes}
 use Rattle.outline.specs.Stores.{wordsIn, wordAt, editionIn, kindIn, gradeIn, countIn, lengthIn, entriesIn, pathIn, dueIn, sameBytes, soundOf}
-use Rattle.outline.specs.Replies.{Row, Reply, vertexNumbers, pathNumbers, firstRow, editionRow, kindRow, gradeRow, countRow, lengthRow, outsideRow, soundRow, roomRow, storeRows, written, readReply, readGrade, readOut}
+use Rattle.outline.specs.Replies.{Row, Reply, firstRow, editionRow, kindRow, gradeRow, countRow, lengthRow, outsideRow, soundRow, roomRow, storeRows, written, readReply, readGrade, readOut}
 use Rattle.outline.specs.Theorems.{Within, KeptIsSound, KeptIsRead, OneOutline, OutlineLength}
 
 -- ---- words and bytes

@@ -7,9 +7,9 @@ use lib.ListN.{length}
 use Rattle.runs.specs.Runs.{spread}
 use Rattle.arc.specs.Edges.{edgeNumbers}
 use Rattle.arc.specs.declared.Edge.{Edge}
-use Rattle.variable_stroke.specs.Paths.{bodiesOf, edgesOf}
+use Rattle.variable_stroke.specs.Paths.{pathOf, bodiesOf, edgesOf}
 use Rattle.outline.specs.Words.{outlineWords, outlineBytes}
-use Rattle.outline.specs.Replies.{pathOf, drawReply}
+use Rattle.outline.specs.Replies.{drawReply}
 
 -- A row: what is asked of a path, the path, three numbers a vertex, and the answer.
 pub record Example : Type 0 where

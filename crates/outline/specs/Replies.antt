@@ -8,24 +8,10 @@ use lib.ListN.{length, drop, set, replicate}
 use Rattle.runs.specs.Runs.{spread}
 use Rattle.arc.specs.Edges.{edgeNumbers}
 use Rattle.variable_stroke.specs.Limits.{allowedOf, firstOutside}
-use Rattle.variable_stroke.specs.Paths.{edgesOf}
+use Rattle.variable_stroke.specs.Paths.{pathOf, pathNumbers, edgesOf}
 use Rattle.variable_stroke.specs.declared.Vertex.{Vertex}
 use Rattle.outline.specs.Words.{outlineBytes}
 use Rattle.outline.specs.Stores.{editionIn, kindIn, gradeIn, countIn, lengthIn, pathIn, soundOf, differingIn}
-
--- ---- vertices in lent numbers, three a vertex
-
-unfoldable pub pathOf : List ℤ → List Vertex
-pathOf [] = []
-pathOf (x ∷ []) = []
-pathOf (x ∷ y ∷ []) = []
-pathOf (x ∷ y ∷ r ∷ l) = record { x = x; y = y; radius = r } ∷ pathOf l
-
-unfoldable pub vertexNumbers : Vertex → List ℤ
-vertexNumbers v = v .x ∷ v .y ∷ v .radius ∷ []
-
-unfoldable pub pathNumbers : List Vertex → List ℤ
-pathNumbers vs = spread vertexNumbers vs
 
 -- ---- rows
 

@@ -6,12 +6,12 @@ use Prim.Native.Nat.{ℕ, _+_, _*_, _≤_, _<_}
 use lib.IntN.{ℤ}
 use lib.ListN.{length, take, drop, set}
 use Rattle.variable_stroke.specs.Limits.{firstOutside}
-use Rattle.variable_stroke.specs.Paths.{edgesOf}
+use Rattle.variable_stroke.specs.Paths.{pathNumbers, edgesOf}
 use Rattle.variable_stroke.specs.Local.{reachOf}
 use Rattle.variable_stroke.specs.declared.Vertex.{Vertex}
 use Rattle.outline.specs.Words.{outlineBytes}
 use Rattle.outline.specs.Stores.{editionIn, kindIn, gradeIn, countIn, lengthIn, pathIn, dueIn, bodiesIn, soundOf, differingIn}
-use Rattle.outline.specs.Replies.{pathNumbers, readReply, readGrade, readOut, replaceReply, replaceOut}
+use Rattle.outline.specs.Replies.{readReply, readGrade, readOut, replaceReply, replaceOut}
 use Rattle.outline.specs.Answers.{Draws, Keeps, Reads, Replaces}
 use Rattle.outline.specs.declared.Drawn.{Drawn}
 use Rattle.outline.specs.declared.Kept.{Kept}

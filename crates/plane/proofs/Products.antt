@@ -69,6 +69,11 @@ pub square-most : {v : Vector} → Short v → squareOf v ≤ 2 ^ 61
 unfolding squareOf
 square-most {v} h = omega (arith, part-square (h .x), part-square (h .y))
 
+-- and a cross product of two such
+pub cross-size : {u v : Vector} → Short u → Short v → Size (2 ^ 61) (crossOf u v)
+unfolding crossOf
+cross-size h k = size-sub (2 ^ 60) (2 ^ 60) _ _ (size-mul (2 ^ 30) (2 ^ 30) _ _ (h .x) (k .y)) (size-mul (2 ^ 30) (2 ^ 30) _ _ (h .y) (k .x))
+
 -- ---- from what the code has computed on bits to the definitions
 
 module _ (u v : Vector) (r : ℤ) (h : Short u) (k : Short v) where
@@ -99,7 +104,7 @@ neg-bits : (m n : ℕ) → m < 2 ^ 63 → n < 2 ^ 63 → (t : Bool) → eqb m n 
 neg-bits m n hm hn true e = eq-eqb _ _ (ap (λ k. 2 ^ 64 - suc k) (eqb-true m n e))
 neg-bits m n hm hn false e = ne-eqb _ _ (λ (h : 2 ^ 64 - suc m ≡ 2 ^ 64 - suc n). eqb-false m n e (omega (arith, h)))
 
-eq-bits : (a b : ℤ) → mag a < 2 ^ 63 → mag b < 2 ^ 63 → eqb (ofZ w64 a) (ofZ w64 b) ≡ sameNumber a b
+pub eq-bits : (a b : ℤ) → mag a < 2 ^ 63 → mag b < 2 ^ 63 → eqb (ofZ w64 a) (ofZ w64 b) ≡ sameNumber a b
 unfolding sameNumber
 eq-bits (pos m) (pos n) ha hb = refl
 eq-bits (pos m) (negsuc n) ha hb = ne-eqb _ _ (λ (h : m ≡ 2 ^ 64 - suc n). omega (arith, h))

@@ -13,8 +13,8 @@ use Rattle.arc.specs.Edges.{edgeOf}
 use Rattle.variable_stroke.specs.Contacts.{kindOf, sectionOf}
 use Rattle.variable_stroke.specs.Covering.{coveredOf}
 use Rattle.variable_stroke.specs.Chains.{freshOf, finishLast, finishOf, meetLast, drawnOf, breakEnd, breakStart, leaveEdges, leaveChain, markedOf, emittedOf, nextChain, nextLast, nextClosing, nextOf, startOf}
-use Rattle.variable_stroke.specs.Paths.{bodiesFrom, bodiesAt, bodiesOf}
-use Rattle.variable_stroke.specs.Local.{none, seenLast, seenChain, seen, settles, thinFrom, thinRun, reachOf, BodiesFromBefore, EarlierKept, AlikeEmitAlike, SettledAlike, LaterKept, ReachKept}
+use Rattle.variable_stroke.specs.Paths.{none, bodiesFrom, bodiesAt, bodiesOf}
+use Rattle.variable_stroke.specs.Local.{seenLast, seenChain, seen, settles, thinFrom, thinRun, reachOf, BodiesFromBefore, EarlierKept, AlikeEmitAlike, SettledAlike, LaterKept, ReachKept}
 use Rattle.variable_stroke.specs.declared.Vertex.{Vertex}
 use Rattle.arc.specs.declared.Edge.{Edge}
 use Rattle.variable_stroke.specs.declared.Section.{Section}

@@ -2,6 +2,7 @@
 use mathlib.Core.Path.{_≡_}
 use Prim.Native.Nat.{ℕ, _^_}
 use Rattle.whole.specs.Sizes.{Size}
+use Rattle.plane.specs.declared.Vector.{Vector}
 use Rattle.arc.specs.Bounds.{Radius, About}
 use Rattle.variable_stroke.specs.Contacts.{centreOf}
 use Rattle.variable_stroke.specs.declared.Vertex.{Vertex}
@@ -16,6 +17,11 @@ pub record Inside (v : Vertex) : Type 0 where
   pub x : Size (2 ^ 28) (v .x)
   pub y : Size (2 ^ 28) (v .y)
   pub radius : Radius (v .radius)
+
+-- the way from one such vertex to another
+pub record Line (v : Vector) : Type 0 where
+  pub x : Size (2 ^ 29) (v .x)
+  pub y : Size (2 ^ 29) (v .y)
 
 -- a section of such vertices, each contact about its centre
 pub record Around (s : Section) : Type 0 where

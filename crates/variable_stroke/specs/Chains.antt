@@ -27,8 +27,7 @@ freshOf v k = record { start = v; cap = k; last = Nothing; mark = false }
 unfoldable pub bothButt : Cap → Cap → Bool
 bothButt Butt Butt = true
 bothButt Butt Round = false
-bothButt Round Butt = false
-bothButt Round Round = false
+bothButt Round end = false
 
 -- Finish: the end cap if there is a last section; otherwise a circle at the start vertex if no step was marked and not both caps are Butt.
 unfoldable pub loneOf : Vector → Chain → Cap → List Edge

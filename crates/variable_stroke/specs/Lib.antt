@@ -7,3 +7,4 @@ pub mod Chains
 pub mod Paths
 pub mod Local
 pub mod Bounds
+pub mod Steps

@@ -3,12 +3,11 @@ use mathlib.Core.Path.{_≡_}
 use mathlib.Core.Bool.{Bool, true, false}
 use mathlib.Core.List.{List, [], _∷_}
 use Prim.Native.Nat.{ℕ, suc, _+_, _<_}
-use lib.IntN.{pos}
 use lib.ListN.{length, getD, take, drop, set}
 use Rattle.plane.specs.declared.Vector.{Vector}
 use Rattle.variable_stroke.specs.Contacts.{kindOf}
 use Rattle.variable_stroke.specs.Chains.{nextOf}
-use Rattle.variable_stroke.specs.Paths.{bodiesFrom, bodiesOf}
+use Rattle.variable_stroke.specs.Paths.{none, bodiesFrom, bodiesOf}
 use Rattle.variable_stroke.specs.declared.Vertex.{Vertex}
 use Rattle.variable_stroke.specs.declared.Kind.{Kind}
 use Rattle.variable_stroke.specs.declared.Kind.the-variants.{Broken, Drawn, Thin}
@@ -56,9 +55,6 @@ abbrev pub SettledAlike : Type 0
 SettledAlike = (u w : Walk) (b : Vertex) → u .at ≡ w .at → settles (kindOf (u .at) b) ≡ true → seen (nextOf u b) ≡ seen (nextOf w b)
 
 -- ---- after the change
-
-abbrev pub none : Vertex
-none = record { x = pos 0; y = pos 0; radius = pos 0 }
 
 -- Let the step from vertex i to vertex i + 1 be drawn or broken, and both stand after k: every body after vertex i + 1 stays as it was, and the
 -- closing body, which stands last, too, unless i + 1 is the last vertex. This holds for each such step, so for the first.

@@ -1,13 +1,32 @@
 -- Document 01, "Chains" and "The kept outline": a path's edges, by the vertex on whose reaching they are emitted.
 use mathlib.Core.List.{List, [], _∷_, _++_}
 use Prim.Native.Nat.{ℕ}
+use lib.IntN.{ℤ, pos}
 use lib.ListN.{length, getD}
+use Rattle.runs.specs.Runs.{spread}
 use Rattle.plane.specs.Directions.{stepOf}
 use Rattle.plane.specs.declared.Vector.{Vector}
 use Rattle.arc.specs.declared.Edge.{Edge}
 use Rattle.variable_stroke.specs.Chains.{finishOf, emittedOf, nextOf, startOf}
 use Rattle.variable_stroke.specs.declared.Vertex.{Vertex}
 use Rattle.variable_stroke.specs.declared.Walk.{Walk}
+
+-- Vertices in lent numbers, three a vertex; what is left over is none.
+unfoldable pub pathOf : List ℤ → List Vertex
+pathOf [] = []
+pathOf (x ∷ []) = []
+pathOf (x ∷ y ∷ []) = []
+pathOf (x ∷ y ∷ r ∷ l) = record { x = x; y = y; radius = r } ∷ pathOf l
+
+unfoldable pub vertexNumbers : Vertex → List ℤ
+vertexNumbers v = v .x ∷ v .y ∷ v .radius ∷ []
+
+unfoldable pub pathNumbers : List Vertex → List ℤ
+pathNumbers vs = spread vertexNumbers vs
+
+-- what a vertex is taken for where there is none
+abbrev pub none : Vertex
+none = record { x = pos 0; y = pos 0; radius = pos 0 }
 
 -- A body for each next vertex. At the end, finish with the closing cap: the closing body stands last.
 unfoldable pub bodiesFrom : Vector → Walk → List Vertex → List (List Edge)

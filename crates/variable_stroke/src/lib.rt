@@ -1,6 +1,12 @@
 // The variable-width stroke: a path of vertices, each with a radius, walked step by step; follows src/mesh/int/variable_stroke.
 use arc::Edge;
 
+pub mod builder;
+pub mod builder_join;
+pub mod math;
+pub mod paths;
+pub mod sections;
+
 // A vertex of a path.
 pub struct Vertex {
     pub x: i64,

@@ -5,7 +5,7 @@ use Prim.Native.Nat.{ℕ, suc, _+_, _≤_, _<_}
 use native.Mathlib.Omega.{arith}
 use lib.Dec.{T, ltb→lt}
 use lib.IntN.{ℤ, pos, negsuc, negℤ, natAbs, _+ℤ_, _-ℤ_}
-use lib.Signed.{mag, ltZ, leZ, nonNeg, _<ℤ_}
+use lib.Signed.{mag, ltZ, leZ, nonNeg, _≤ℤ_, _<ℤ_}
 use borrow.Author.Tests.{ltb-true, ltb-false, leb-true, leb-false}
 use Rattle.whole.proofs.Signed.{up, down, ext, add-balance, up-neg, down-neg}
 use Rattle.whole.proofs.Sizes.{abs-neg}
@@ -56,6 +56,22 @@ not-neg (negsuc n) e = absurd (true≢false e)
 
 pub minus-nonneg : (a : ℤ) → ltZ a (pos 0) ≡ true → T (nonNeg (pos 0 -ℤ a))
 minus-nonneg a t = subst (λ (z : ℤ). T (nonNeg z)) (sym (minus-is a)) (nonneg (negℤ a) (down-neg a ∙ is-neg a t .0))
+
+pub natural : {a : ℤ} → pos 0 ≤ℤ a → (up a ≡ natAbs a) × (down a ≡ 0)
+natural {a = pos n} h = (refl, refl)
+natural {a = negsuc n} h = absurd (h .le)
+
+-- two numbers from 0 to m differ by at most m
+less-most : (z : ℤ) (p q m : ℕ) → up z + q ≡ down z + p → p ≤ m → q ≤ m → natAbs z ≤ m
+less-most (pos n) p q m e h k = omega arith
+less-most (negsuc n) p q m e h k = omega arith
+
+pub abs-between : {a b : ℤ} (m : ℕ) → pos 0 ≤ℤ a → pos 0 ≤ℤ b → natAbs a ≤ m → natAbs b ≤ m → natAbs (a -ℤ b) ≤ m
+abs-between {a} {b} m h k i j =
+    less-most (a -ℤ b) (up a) (up b) m
+    (omega (arith, add-balance a (negℤ b), up-neg b, down-neg b, natural h, natural k))
+    (omega (arith, natural h))
+    (omega (arith, natural k))
 
 pub positive : {a : ℤ} → pos 0 <ℤ a → (up a ≡ natAbs a) × (down a ≡ 0) × (0 < natAbs a)
 positive {a = pos n} h = (refl, refl, ltb→lt 0 n (h .lt))

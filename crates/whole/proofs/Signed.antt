@@ -127,6 +127,9 @@ add-left-commℤ a b c = ext (a +ℤ (b +ℤ c)) (b +ℤ (a +ℤ c)) (omega (ari
 pub mul-left-commℤ : (a b c : ℤ) → a *ℤ (b *ℤ c) ≡ b *ℤ (a *ℤ c)
 mul-left-commℤ a b c = sym (mul-assocℤ a b c) ∙ ap (λ (x : ℤ). x *ℤ c) (mul-commℤ a b) ∙ mul-assocℤ b a c
 
+pub mul-right-commℤ : (a b c : ℤ) → a *ℤ b *ℤ c ≡ a *ℤ c *ℤ b
+mul-right-commℤ a b c = mul-assocℤ a b c ∙ ap (λ (x : ℤ). a *ℤ x) (mul-commℤ b c) ∙ sym (mul-assocℤ a c b)
+
 pub add-mulℤ : (a b c : ℤ) → (a +ℤ b) *ℤ c ≡ a *ℤ c +ℤ b *ℤ c
 add-mulℤ a b c = mul-commℤ (a +ℤ b) c ∙ mul-addℤ c a b ∙ (λ i. mul-commℤ c a i +ℤ mul-commℤ c b i)
 

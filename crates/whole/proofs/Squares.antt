@@ -1,11 +1,11 @@
 -- Squares, and what Cauchy and Schwarz say of sums of products. Assumes nothing.
 use mathlib.Core.Path.{_≡_, refl, sym, ap, subst, _∙_}
-use Prim.Native.Nat.{ℕ, suc, _+_, _-_, _*_, _^_, _≤_, _<_}
-use native.Mathlib.Nat.{le-trans, mul-le-mul, lt-of-not-le, not-le-of-lt, mul-comm, mul-add, add-mul, mul-assoc, mul-left-comm, add-assoc, add-comm, add-left-comm, mul-le-mul-left, lt-of-le-of-lt, le-of-lt}
+use Prim.Native.Nat.{ℕ, zero, suc, _+_, _-_, _*_, _^_, _≤_, _<_}
+use native.Mathlib.Nat.{le-trans, mul-le-mul, lt-of-not-le, not-le-of-lt, mul-comm, mul-add, add-mul, mul-assoc, mul-left-comm, add-assoc, add-comm, add-left-comm, mul-le-mul-left, lt-of-le-of-lt, le-of-lt, pow-suc}
 use native.Mathlib.Decide.{decLe}
 use native.Mathlib.Omega.{arith}
 use lib.IntN.{ℤ, pos, negsuc, negℤ, natAbs, _+ℤ_, _-ℤ_, _*ℤ_, negℤ-negℤ}
-use lib.Pow.{shl-lt}
+use lib.Pow.{shl-lt, pow-add}
 use Rattle.whole.proofs.Signed.{up, down, ext, up-neg, down-neg, add-balance, mul-addℤ, add-mulℤ, mul-negℤ, neg-mulℤ, mul-commℤ, mul-assocℤ, mul-left-commℤ, add-commℤ, add-assocℤ, add-left-commℤ}
 use Rattle.whole.proofs.Sizes.{abs-mul, abs-add}
 
@@ -21,6 +21,19 @@ square-double q = simp (mul-assoc, mul-left-comm) (omega arith)
 -- the square of a number of k bits has 2k bits
 pub square-below : (k : ℕ) {a : ℕ} → a < 2 ^ k → a * a < 2 ^ (k + k)
 square-below k {a} h = lt-of-le-of-lt (mul-le-mul-left a (le-of-lt h)) (shl-lt k k h)
+
+-- the square of a power of two, and of a multiple of one
+pub four-power : (k : ℕ) → 4 ^ k ≡ 2 ^ (2 * k)
+four-power zero = refl
+four-power (suc k) =
+    let e : 2 * suc k ≡ suc (suc (2 * k)) = omega arith in
+    pow-suc 4 k ∙ ap (λ (n : ℕ). n * 4) (four-power k) ∙ sym (ap (λ (n : ℕ). 2 ^ n) e ∙ omega arith)
+
+power-square : (k : ℕ) → 2 ^ k * 2 ^ k ≡ 4 ^ k
+power-square k = let e : 2 * k ≡ k + k = omega arith in sym (four-power k ∙ ap (λ (n : ℕ). 2 ^ n) e ∙ pow-add 2 k k)
+
+pub scaled-square : (n k : ℕ) → n * 2 ^ k * (n * 2 ^ k) ≡ n * n * 4 ^ k
+scaled-square n k = rw (← power-square k) (simp (mul-assoc, mul-left-comm) refl)
 
 -- squares keep the order, and tell it
 pub square-most : {a b : ℕ} → a ≤ b → a * a ≤ b * b

@@ -1,0 +1,54 @@
+-- An edge as four stores into lent numbers. Assumes nothing.
+use mathlib.Core.Path.{_≡_, refl, _∙_}
+use mathlib.Core.Bool.{true, false}
+use mathlib.Core.List.{List, [], _∷_}
+use Prim.Native.Nat.{ℕ, _+_, _^_, _<_}
+use native.Mathlib.Numerals.{add-one, add-two, add-three}
+use lib.ListN.{set}
+use lib.IntN.{ℤ}
+use mir.Syntax.{w32}
+use mir.Val.{toZ, ofZ}
+use mir.Facts.{toZ-ofZ}
+use Rattle.whole.specs.Sizes.{Size}
+use Rattle.whole.proofs.Sizes.{size-fits}
+use Rattle.runs.specs.Runs.{Runs, Room, spread, over, put}
+use Rattle.plane.specs.Vectors.{samePoint}
+use Rattle.plane.proofs.Products.{bits, back, near-fits}
+use Rattle.plane.specs.declared.Point.{Point}
+use Rattle.arc.specs.Edges.{edgeNumbers, edgeOf}
+use Rattle.arc.specs.Bounds.{Reach}
+use Rattle.arc.specs.declared.Edge.{Edge}
+
+-- ---- no edge, or one
+
+pub edge-none : (p q : Point) → samePoint p q ≡ true → edgeOf p q ≡ []
+unfolding edgeOf
+edge-none p q e = rw (e, edgeOf)
+
+pub edge-some : (p q : Point) → samePoint p q ≡ false → edgeOf p q ≡ record { a = p; b = q } ∷ []
+unfolding edgeOf
+edge-some p q e = rw (e, edgeOf)
+
+-- ---- one edge is four numbers
+
+pub room-one : {at : ℕ} (e : Edge) → Room edgeNumbers at (e ∷ []) → at + 4 < 2 ^ 64
+unfolding spread edgeNumbers
+room-one e h = h .fits
+
+-- a coordinate as an i32, by its bits
+abbrev number : ℤ → ℤ
+number r = toZ w32 (ofZ w32 r)
+
+narrowed : {r z : ℤ} → Size (2 ^ 29) z → r ≡ bits z → number r ≡ z
+narrowed {r} {z} h e =
+    let f : r ≡ z = e ∙ back (near-fits h) in
+    rw f (toZ-ofZ (size-fits (2 ^ 29) w32 _ h tt))
+
+pub edge-stored : {l₀ l₁ l₂ l₃ l₄ : List ℤ} {at : ℕ} (e : Edge) {x y z w : ℤ} → Reach e → x ≡ bits (e .a .x) → y ≡ bits (e .a .y) → z ≡ bits (e .b .x) → w ≡ bits (e .b .y)
+    → l₁ ≡ set l₀ at (number x) → l₂ ≡ set l₁ (at + 1) (number y) → l₃ ≡ set l₂ (at + 2) (number z) → l₄ ≡ set l₃ (at + 3) (number w)
+    → Runs put edgeNumbers l₀ at (e ∷ []) l₄ (at + 4)
+unfolding spread over edgeNumbers
+edge-stored {at = at} e h ex ey ez ew p q r s = record {
+  out = cc (add-one at, add-two at, add-three at, narrowed (h .a .x) ex, narrowed (h .a .y) ey, narrowed (h .b .x) ez, narrowed (h .b .y) ew);
+  pos = refl;
+}

@@ -1,0 +1,74 @@
+-- `arc::circle::circle` meets its contract: both ends lie about the centre, and off it. Assumes nothing.
+use mathlib.Core.Path.{_≡_}
+use mathlib.Core.List.{_++_}
+use Prim.Native.Nat.{_<_}
+use borrow.Author.Needs.{needs}
+use Rattle.runs.proofs.Laws.{runs-none, runs-as, runs-then, room-as, room-first, room-then}
+use Rattle.plane.specs.Vectors.{fromTo, squareOf}
+use Rattle.plane.proofs.Products.{bits}
+use Rattle.arc.specs.Arcs.{sweptOf, circleOf}
+use Rattle.arc.specs.Bounds.{About}
+use Rattle.arc.proofs.Limits.{radius-back, radius-told}
+use Rattle.arc.proofs.Rays.{east-told, west-told}
+use Rattle.arc.proofs.Cases.{circle-none, circle-some}
+use Rattle.arc.proofs.circle.circle.Statement.{statement}
+use Rattle.arc.proofs.circle.circle.Tie as tie
+
+abbrev start : tie.After-west → tie.Start
+start c = c .before .before .before
+
+-- its two ends, and its two arcs
+east : (c : tie.After-west) → let p = c .before .east .result in About (start c .args .c) p × (0 < squareOf (fromTo (start c .args .c) p))
+east c = east-told _ (radius-told (start c .pre .0 .2)) (c .before .before .if1 .left) (c .before .east .ensures)
+
+west : (c : tie.After-west) → let p = c .west .result in About (start c .args .c) p × (0 < squareOf (fromTo (start c .args .c) p))
+west c = west-told _ (radius-told (start c .pre .0 .2)) (c .before .before .if1 .left) (c .west .ensures)
+
+halves : (c : tie.After-west) →
+    let a = start c .args in
+    let e = c .before .east .result in
+    let w = c .west .result in
+    circleOf (a .t) (a .c) (a .radius) ≡ sweptOf (a .t) (a .c) (bits (a .radius)) e w ++ sweptOf (a .t) (a .c) (bits (a .radius)) w e
+halves c = circle-some _ _ (radius-back (start c .pre .0 .2)) (c .before .before .if1 .left) (c .before .east .ensures) (c .west .ensures)
+
+returns : tie.Need-returns
+returns c = runs-as (circle-none _ _ (radius-back (c .before .pre .0 .2)) (c .if1 .taken)) runs-none
+
+east-requires : tie.Need-east-requires
+east-requires c κs = search needs
+
+west-requires : tie.Need-west-requires
+west-requires c κs = search needs
+
+swept-requires : tie.Need-swept-requires
+swept-requires c κs =
+    let h = c .before .before .before .before .pre .0 in
+    let e = east (c .before) in
+    let w = west (c .before) in
+    ((h .0, h .1, radius-told (h .2), e .0, w .0), ((e .1, w .1), room-first _ _ (room-as (halves (c .before)) (c .before .before .before .before .pre .1))))
+
+swept-requires-2 : tie.Need-swept-requires-2
+swept-requires-2 c κs =
+    let h = c .before .before .before .before .before .before .before .pre .0 in
+    let b = c .before .before .before .before in
+    let e = east b in
+    let w = west b in
+    ((h .0, h .1, radius-told (h .2), w .0, e .0), ((w .1, e .1), room-then _ (c .before .before .swept .ensures) (room-as (halves b) (c .before .before .before .before .before .before .before .pre .1))))
+
+same-length : tie.Need-same-length
+same-length c = search needs
+
+returns-2 : tie.Need-returns-2
+returns-2 c = runs-as (halves (c .before .before .before .before .before .before)) (runs-then (c .before .before .before .before .swept .ensures) (c .before .swept2 .ensures))
+
+pub circle-spec : {M : Type 1} → statement M
+circle-spec =
+    tie.close
+    (tie.spec
+    returns
+    east-requires
+    west-requires
+    swept-requires
+    swept-requires-2
+    same-length
+    returns-2)

@@ -1,0 +1,125 @@
+-- `arc::turn::turns` meets its contract: whoever writes what is left from here has written all. The measure is the rotations left.
+-- Assumes nothing.
+use mathlib.Core.List.{_++_}
+use Prim.Native.Nat.{_-_}
+use native.Mathlib.Omega.{arith}
+use Rattle.runs.specs.Runs.{put}
+use Rattle.runs.proofs.Laws.{room-first}
+use Rattle.runs.proofs.Onward.{Onward, onward-start, onward-step, onward-as, onward-done, onward-room}
+use Rattle.runs.proofs.Written.{written-length}
+use Rattle.plane.specs.Vectors.{Near}
+use Rattle.plane.specs.Directions.{UnitLong}
+use Rattle.arc.specs.Edges.{edgeNumbers, edgeOf}
+use Rattle.arc.specs.Arcs.{turnsOf}
+use Rattle.arc.proofs.Limits.{radius-told, point-is, point-reach, next-unit}
+use Rattle.arc.proofs.Cases.{turns-end, turns-stop, turns-go}
+use Rattle.arc.proofs.turn.turns.Statement.{statement}
+use Rattle.arc.proofs.turn.turns.Tie as tie
+
+abbrev Inv-loop : tie.InvT-loop
+Inv-loop out₀ at r dir₀ cur₀ n₀ left₀ out dir cur n left =
+    Onward put edgeNumbers out₀ n₀ (turnsOf left₀ r dir₀ cur₀) out n (turnsOf left r dir cur) × UnitLong dir × Near cur
+
+abbrev μ-loop : tie.MeasureT-loop
+μ-loop out₀ at r dir₀ cur₀ n₀ left₀ out dir cur n left = left
+
+-- the loop's place, and the call, from where the rotated direction is known
+abbrev loop : tie.After-rotated Inv-loop μ-loop → tie.At-loop Inv-loop μ-loop
+loop c = c .before .before
+
+abbrev start : tie.After-rotated Inv-loop μ-loop → tie.Start Inv-loop μ-loop
+start c = loop c .before
+
+next : (c : tie.After-rotated Inv-loop μ-loop) → UnitLong (c .rotated .result)
+next c = next-unit (start c .pre .0 .step) (loop c .loop .inv .1) (c .rotated .ensures)
+
+-- what is left where the arc stops, and where it goes on
+last : (c : tie.Then1 Inv-loop μ-loop) →
+    let b = c .before .before in
+    let a = start b .args in
+    let l = loop b .loop in
+    Onward put edgeNumbers (a .out .now) (a .at) (turnsOf 1536 (a .r) (a .d) (a .p)) (l .out) (l .n) (edgeOf (l .cur) (a .r .to))
+last c =
+    let b = c .before .before in
+    onward-as (turns-stop _ _ _ _ (b .before .loop-test .taken) (b .rotated .ensures) (c .before .stops .ensures) (c .if1 .taken)) (loop b .loop .inv .0)
+
+on : (c : tie.After-point-at Inv-loop μ-loop) →
+    let b = c .before .before .before .before in
+    let a = start b .args in
+    let l = loop b .loop in
+    let q = c .point-at .result in
+    Onward put edgeNumbers (a .out .now) (a .at) (turnsOf 1536 (a .r) (a .d) (a .p)) (l .out) (l .n) (edgeOf (l .cur) q ++ turnsOf (l .left - 1) (a .r) (b .rotated .result) q)
+on c =
+    let e = c .before .before in
+    let b = e .before .before in
+    onward-as (turns-go _ _ _ _ (b .before .loop-test .taken) (b .rotated .ensures) (e .before .stops .ensures) (e .if1 .left) (point-is _ _ (start b .pre .0 .radius) (c .point-at .ensures))) (loop b .loop .inv .0)
+
+reached : (c : tie.After-point-at Inv-loop μ-loop) → Near (c .point-at .result)
+reached c =
+    let b = c .before .before .before .before in
+    point-reach (start b .pre .0 .centre) (start b .pre .0 .radius) (next b) (c .point-at .ensures)
+
+loop-holds : tie.Need-loop-holds Inv-loop μ-loop
+loop-holds c = (onward-start, c .pre .1 .0 .0, c .pre .1 .0 .1)
+
+rotated-requires : tie.Need-rotated-requires Inv-loop μ-loop
+rotated-requires c κs = (c .before .before .pre .0 .step, c .before .loop .inv .1)
+
+stops-requires : tie.Need-stops-requires Inv-loop μ-loop
+stops-requires c κs = (c .before .before .loop .inv .1, next c, c .before .before .before .pre .0 .toward)
+
+edge-requires : tie.Need-edge-requires Inv-loop μ-loop
+edge-requires c κs = ((c .before .before .before .before .before .loop .inv .2, c .before .before .before .before .before .before .pre .0 .to), onward-room (last (c .before)) (c .before .before .before .before .before .before .pre .1 .1))
+
+returns : tie.Need-returns Inv-loop μ-loop
+returns c = onward-done (last (c .before .before .before)) (c .before .edge .ensures)
+
+same-length : tie.Need-same-length Inv-loop μ-loop
+same-length c = written-length (returns c)
+
+point-at-requires : tie.Need-point-at-requires Inv-loop μ-loop
+point-at-requires c κs = (c .before .before .before .before .before .before .pre .0 .centre, radius-told (c .before .before .before .before .before .before .pre .0 .radius), next (c .before .before .before))
+
+edge-requires-2 : tie.Need-edge-requires-2 Inv-loop μ-loop
+edge-requires-2 c κs = ((c .before .before .before .before .before .before .before .loop .inv .2, reached (c .before)), room-first _ _ (onward-room (on (c .before)) (c .before .before .before .before .before .before .before .before .pre .1 .1)))
+
+sub-left : tie.Need-sub-left Inv-loop μ-loop
+sub-left c = omega (arith, c .before .before .before .before .before .before .before .before .loop-test .taken)
+
+loop-less : tie.Need-loop-less Inv-loop μ-loop
+loop-less c = omega (arith, c .before .before .before .before .before .before .before .before .loop-test .taken)
+
+loop-again : tie.Need-loop-again Inv-loop μ-loop
+loop-again c =
+    let p = c .before .before .before in
+    (onward-step (on p) (c .before .edge2 .ensures), next (p .before .before .before .before), reached p)
+
+edge-requires-3 : tie.Need-edge-requires-3 Inv-loop μ-loop
+edge-requires-3 c κs = ((c .before .before .loop .inv .2, c .before .before .before .pre .0 .to), onward-room (onward-as (turns-end _ _ _ _ (c .before .loop-test .left)) (c .before .before .loop .inv .0)) (c .before .before .before .pre .1 .1))
+
+returns-2 : tie.Need-returns-2 Inv-loop μ-loop
+returns-2 c = onward-done (onward-as (turns-end _ _ _ _ (c .before .before .before .loop-test .left)) (c .before .before .before .before .loop .inv .0)) (c .before .edge3 .ensures)
+
+same-length-2 : tie.Need-same-length-2 Inv-loop μ-loop
+same-length-2 c = written-length (returns-2 c)
+
+pub turns-spec : {M : Type 1} → statement M
+turns-spec =
+    tie.close
+    (tie.spec
+    Inv-loop
+    μ-loop
+    loop-holds
+    rotated-requires
+    stops-requires
+    edge-requires
+    same-length
+    returns
+    point-at-requires
+    edge-requires-2
+    sub-left
+    loop-less
+    loop-again
+    edge-requires-3
+    same-length-2
+    returns-2)

@@ -1,0 +1,80 @@
+// An arc's turning: rotation after rotation, each direction scaled by the radius, until the end's direction is reached.
+use crate::Turning;
+use crate::edges::edge;
+use plane::Point;
+use plane::Vector;
+use plane::rotation::rotated;
+use plane::rotation::scaled;
+use plane::vectors::cross;
+use plane::vectors::dot;
+ghost use mathlib.Core.Path.{_≡_};
+ghost use Prim.Native.Nat.{_^_};
+ghost use lib.IntN.{_+ℤ_};
+ghost use Rattle.whole.specs.Sizes.{Size};
+ghost use Rattle.runs.specs.Runs.{Runs, Room, put};
+ghost use Rattle.plane.specs.Vectors.{Near};
+ghost use Rattle.plane.specs.Directions.{UnitLong, scaledOf};
+ghost use Rattle.arc.specs.Edges.{edgeNumbers};
+ghost use Rattle.arc.specs.Arcs.{nearOf, stopsOf, turnsOf};
+ghost use Rattle.arc.specs.Bounds.{Centre, Radius, Turns};
+
+// Whether the direction d is near the end's direction e.
+fn near(d: Vector, e: Vector) -> bool
+    requires { ⌜ UnitLong d × UnitLong e ⌝ }
+    ensures { λ r. ⌜ r ≡ nearOf d e ⌝ }
+{
+    0 <= cross(d, e) && 0 <= dot(d, e)
+}
+
+// Whether an arc stops before it turns from d to next, where e is the end's direction.
+pub fn stops(d: Vector, next: Vector, e: Vector) -> bool
+    requires { ⌜ UnitLong d × UnitLong next × UnitLong e ⌝ }
+    ensures { λ r. ⌜ r ≡ stopsOf d next e ⌝ }
+{
+    cross(next, e) <= 0 && near(d, e)
+}
+
+// A coordinate moved by an offset.
+pub fn moved(a: i64, by: i64) -> i64
+    requires { ⌜ Size (2 ^ 28) a × Size (2 ^ 28) by ⌝ }
+    ensures { λ r. ⌜ r ≡ a +ℤ by ⌝ }
+{
+    a + by
+}
+
+// The point in the direction d, at the radius from the centre.
+pub fn point_at(c: Point, radius: i64, d: Vector) -> Point
+    requires { ⌜ Centre c × Radius radius × UnitLong d ⌝ }
+    ensures { λ r. ⌜ r ≡ scaledOf c radius d ⌝ }
+{
+    let r = radius as u64;
+    Point {
+        x: moved(c.x, scaled(d.x, r)),
+        y: moved(c.y, scaled(d.y, r)),
+    }
+}
+
+// From the point p in the direction d: the edges to the inner points, at most 1,536 of them, and to the end.
+pub fn turns(out: &mut [i32], at: usize, r: Turning, d: Vector, p: Point) -> usize
+    requires { ⌜ Turns r ⌝ }
+    requires { ⌜ UnitLong d × Near p ⌝ }
+    requires { ⌜ Room edgeNumbers at (turnsOf 1536 r d p) ⌝ }
+    ensures { λ n. ⌜ Runs put edgeNumbers (now (out .entry)) at (turnsOf 1536 r d p) (now (out .exit)) n ⌝ }
+{
+    let mut dir = d;
+    let mut cur = p;
+    let mut n = at;
+    let mut left: usize = 1536;
+    while 0 < left {
+        let next = rotated(r.step, dir);
+        if stops(dir, next, r.toward) {
+            return edge(out, n, cur, r.to);
+        }
+        let q = point_at(r.centre, r.radius, next);
+        n = edge(out, n, cur, q);
+        dir = next;
+        cur = q;
+        left -= 1;
+    }
+    edge(out, n, cur, r.to)
+}

@@ -1,0 +1,44 @@
+-- What the steps of chains and walks hand back, and which edges they have put.
+use mathlib.Core.Path.{_≡_}
+use mathlib.Core.List.{List}
+use Prim.Native.Nat.{ℕ}
+use lib.IntN.{ℤ}
+use Rattle.runs.specs.Runs.{Runs, put}
+use Rattle.plane.specs.declared.Vector.{Vector}
+use Rattle.arc.specs.Edges.{edgeNumbers}
+use Rattle.variable_stroke.specs.Chains.{freshOf, finishOf, drawnOf, leaveEdges, leaveChain, leaveClosing, markedOf, emittedOf, nextOf}
+use Rattle.variable_stroke.specs.declared.Vertex.{Vertex}
+use Rattle.variable_stroke.specs.declared.Section.{Section}
+use Rattle.variable_stroke.specs.declared.Cap.{Cap}
+use Rattle.variable_stroke.specs.declared.Last.the-variants.{Held}
+use Rattle.variable_stroke.specs.declared.Chain.{Chain}
+use Rattle.variable_stroke.specs.declared.Walk.{Walk}
+use Rattle.variable_stroke.specs.declared.builder.Stepped.{Stepped}
+use Rattle.variable_stroke.specs.declared.builder.Left.{Left}
+use Rattle.variable_stroke.specs.declared.builder.Walked.{Walked}
+
+-- a chain finished with a cap: its edges, and the chain as it was
+pub record Finishes (l₀ : List ℤ) (at : ℕ) (t : Vector) (c : Chain) (k : Cap) (l₁ : List ℤ) (r : Stepped) : Type 0 where
+  pub chain : r .chain ≡ c
+  pub made : Runs put edgeNumbers l₀ at (finishOf t c k) l₁ (r .at)
+
+-- a chain started: no edges
+pub record Starts (a₀ : ℕ) (v : Vertex) (k : Cap) (r : Stepped) : Type 0 where
+  pub chain : r .chain ≡ freshOf v k
+  pub at : r .at ≡ a₀
+
+-- a chain after a drawn step
+pub record Draws (l₀ : List ℤ) (at : ℕ) (t : Vector) (c : Chain) (s : Section) (l₁ : List ℤ) (r : Stepped) : Type 0 where
+  pub chain : r .chain ≡ markedOf c (Held s)
+  pub made : Runs put edgeNumbers l₀ at (drawnOf t c s) l₁ (r .at)
+
+-- a chain that a covered vertex may have ended
+pub record Leaves (l₀ : List ℤ) (at : ℕ) (t : Vector) (w : Walk) (b : Vertex) (l₁ : List ℤ) (r : Left) : Type 0 where
+  pub chain : r .chain ≡ leaveChain w b
+  pub closing : r .closing ≡ leaveClosing (w .previous) b
+  pub made : Runs put edgeNumbers l₀ at (leaveEdges t w b) l₁ (r .at)
+
+-- a walk after a step
+pub record Walks (l₀ : List ℤ) (at : ℕ) (t : Vector) (w : Walk) (b : Vertex) (l₁ : List ℤ) (r : Walked) : Type 0 where
+  pub walk : r .walk ≡ nextOf w b
+  pub made : Runs put edgeNumbers l₀ at (emittedOf t w b) l₁ (r .at)

@@ -1,0 +1,323 @@
+// Chains, and the walk over a path; follows src/mesh/int/variable_stroke/builder.rs.
+use crate::Cap;
+use crate::Chain;
+use crate::Kind;
+use crate::Last;
+use crate::Section;
+use crate::Vertex;
+use crate::Walk;
+use crate::builder_join::end_cap;
+use crate::builder_join::join;
+use crate::builder_join::start_cap;
+use crate::math::centre;
+use crate::math::kind;
+use crate::sections::covered;
+use crate::sections::section;
+use arc::circle::circle;
+use arc::edges::edge;
+use plane::Vector;
+ghost use mathlib.Core.Path.{_≡_};
+ghost use mathlib.Core.Bool.{true};
+ghost use Rattle.runs.specs.Runs.{Runs, Room, put};
+ghost use Rattle.plane.specs.Directions.{UnitLong};
+ghost use Rattle.arc.specs.Edges.{edgeNumbers};
+ghost use Rattle.variable_stroke.specs.Contacts.{kindOf};
+ghost use Rattle.variable_stroke.specs.Chains.{freshOf, bothButt, loneOf, finishOf, meetLast, drawnOf, breakEnd, breakStart, leaveEdges, emittedOf, startOf};
+ghost use Rattle.variable_stroke.specs.Bounds.{Inside, Around, AroundLast, AroundChain, AroundWalk};
+ghost use Rattle.variable_stroke.specs.Steps.{Finishes, Starts, Draws, Leaves, Walks};
+ghost use Rattle.variable_stroke.specs.declared.Kind.the-variants.{Broken, Drawn, Thin};
+
+// A chain, and where the output has come to.
+pub struct Stepped {
+    pub chain: Chain,
+    pub at: usize,
+}
+
+// A walk, and where the output has come to.
+pub struct Walked {
+    pub walk: Walk,
+    pub at: usize,
+}
+
+// A chain that a covered vertex may have ended, the closing cap, and where the output has come to.
+pub struct Left {
+    pub chain: Chain,
+    pub closing: Cap,
+    pub at: usize,
+}
+
+// Whether both caps of a chain are straight.
+fn both_butt(start: Cap, end: Cap) -> bool
+    ensures { λ r. ⌜ r ≡ bothButt start end ⌝ }
+{
+    match start {
+        Cap::Round => false,
+        Cap::Butt => match end {
+            Cap::Butt => true,
+            Cap::Round => false,
+        },
+    }
+}
+
+impl Chain {
+    // A chain that starts at a vertex.
+    pub fn new(v: Vertex, cap: Cap) -> Chain
+        ensures { λ c. ⌜ c ≡ freshOf v cap ⌝ }
+    {
+        Chain {
+            start: v,
+            cap: cap,
+            last: Last::Nothing,
+            mark: false,
+        }
+    }
+
+    // The circle of a vertex that no step was made from.
+    fn lone(self, out: &mut [i32], at: usize, t: Vector, cap: Cap) -> usize
+        requires { ⌜ UnitLong t × AroundChain self ⌝ }
+        requires { ⌜ Room edgeNumbers at (loneOf t self cap) ⌝ }
+        ensures { λ n. ⌜ Runs put edgeNumbers (now (out .entry)) at (loneOf t self cap) (now (out .exit)) n ⌝ }
+    {
+        let start = self.start;
+        let begun = self.cap;
+        if self.mark {
+            return at;
+        }
+        if both_butt(begun, cap) {
+            return at;
+        }
+        circle(out, at, t, centre(start), start.radius)
+    }
+
+    // What ends the chain.
+    pub fn end(self, out: &mut [i32], at: usize, t: Vector, cap: Cap) -> usize
+        requires { ⌜ UnitLong t × AroundChain self ⌝ }
+        requires { ⌜ Room edgeNumbers at (finishOf t self cap) ⌝ }
+        ensures { λ n. ⌜ Runs put edgeNumbers (now (out .entry)) at (finishOf t self cap) (now (out .exit)) n ⌝ }
+    {
+        let last = self.last;
+        match last {
+            Last::Held(s) => end_cap(out, at, t, s, cap),
+            Last::Nothing => self.lone(out, at, t, cap),
+        }
+    }
+
+    // The chain ended with a cap; it is handed back as it is, to be started anew.
+    pub fn finish(mut self, out: &mut [i32], at: usize, t: Vector, cap: Cap) -> Stepped
+        requires { ⌜ UnitLong t × AroundChain self ⌝ }
+        requires { ⌜ Room edgeNumbers at (finishOf t self cap) ⌝ }
+        ensures { λ r. ⌜ Finishes (now (out .entry)) at t self cap (now (out .exit)) r ⌝ }
+    {
+        let n = self.end(out, at, t, cap);
+        Stepped { chain: self, at: n }
+    }
+
+    // The chain started anew at a vertex, with a cap.
+    pub fn start(mut self, at: usize, v: Vertex, cap: Cap) -> Stepped
+        ensures { λ r. ⌜ Starts at v cap r ⌝ }
+    {
+        self = Chain::new(v, cap);
+        Stepped {
+            chain: self,
+            at: at,
+        }
+    }
+
+    // A join to the last section, or the start cap.
+    fn meet(self, out: &mut [i32], at: usize, t: Vector, s: Section) -> usize
+        requires { ⌜ UnitLong t × AroundChain self × Around s ⌝ }
+        requires { ⌜ Room edgeNumbers at (meetLast t (self .last) (self .cap) s) ⌝ }
+        ensures { λ n. ⌜ Runs put edgeNumbers (now (out .entry)) at (meetLast t (self .last) (self .cap) s) (now (out .exit)) n ⌝ }
+    {
+        let last = self.last;
+        let cap = self.cap;
+        match last {
+            Last::Held(prev) => join(out, at, t, prev, s),
+            Last::Nothing => start_cap(out, at, t, s, cap),
+        }
+    }
+
+    // The edges of a drawn step.
+    fn drawn(self, out: &mut [i32], at: usize, t: Vector, s: Section) -> usize
+        requires { ⌜ UnitLong t × AroundChain self × Around s ⌝ }
+        requires { ⌜ Room edgeNumbers at (drawnOf t self s) ⌝ }
+        ensures { λ n. ⌜ Runs put edgeNumbers (now (out .entry)) at (drawnOf t self s) (now (out .exit)) n ⌝ }
+    {
+        let left = s.left;
+        let right = s.right;
+        let n = edge(out, at, left.b, left.a);
+        let m = edge(out, n, right.a, right.b);
+        self.meet(out, m, t, s)
+    }
+
+    // A step made: the mark is set, and a drawn section becomes the last.
+    pub fn step(mut self, out: &mut [i32], at: usize, t: Vector, s: Section) -> Stepped
+        requires { ⌜ UnitLong t × AroundChain self × Around s ⌝ }
+        requires { ⌜ Room edgeNumbers at (drawnOf t self s) ⌝ }
+        ensures { λ r. ⌜ Draws (now (out .entry)) at t self s (now (out .exit)) r ⌝ }
+    {
+        let n = self.drawn(out, at, t, s);
+        let start = self.start;
+        let cap = self.cap;
+        self = Chain {
+            start: start,
+            cap: cap,
+            last: Last::Held(s),
+            mark: true,
+        };
+        Stepped { chain: self, at: n }
+    }
+}
+
+// The cap that ends a chain where a step breaks it.
+fn break_end(a: Vertex, b: Vertex) -> Cap
+    ensures { λ k. ⌜ k ≡ breakEnd a b ⌝ }
+{
+    if b.radius <= a.radius {
+        return Cap::Round;
+    }
+    Cap::Butt
+}
+
+// The cap that the next chain starts with.
+fn break_start(a: Vertex, b: Vertex) -> Cap
+    ensures { λ k. ⌜ k ≡ breakStart a b ⌝ }
+{
+    if b.radius <= a.radius {
+        return Cap::Butt;
+    }
+    Cap::Round
+}
+
+impl Walk {
+    // The walk at the first vertex of a path.
+    pub fn new(v: Vertex) -> Walk
+        ensures { λ w. ⌜ w ≡ startOf v ⌝ }
+    {
+        Walk {
+            at: v,
+            chain: Chain::new(v, Cap::Round),
+            previous: Last::Nothing,
+            closing: Cap::Round,
+        }
+    }
+
+    // A step that breaks the chain: it ends, and one starts at b.
+    fn broken(self, out: &mut [i32], at: usize, t: Vector, b: Vertex) -> Walked
+        requires { ⌜ UnitLong t × AroundWalk self × Inside b × (kindOf (self .at) b ≡ Broken) ⌝ }
+        requires { ⌜ Room edgeNumbers at (emittedOf t self b) ⌝ }
+        ensures { λ r. ⌜ Walks (now (out .entry)) at t self b (now (out .exit)) r ⌝ }
+    {
+        let a = self.at;
+        let chain = self.chain;
+        let ended = chain.finish(out, at, t, break_end(a, b));
+        let begun = ended.chain.start(ended.at, b, break_start(a, b));
+        let next = begun.chain;
+        Walked {
+            walk: Walk {
+                at: b,
+                chain: next,
+                previous: Last::Nothing,
+                closing: Cap::Round,
+            },
+            at: begun.at,
+        }
+    }
+
+    // Where the previous section covers b the chain ends, and one starts at the vertex before.
+    fn leave(self, out: &mut [i32], at: usize, t: Vector, b: Vertex) -> Left
+        requires { ⌜ UnitLong t × AroundWalk self × Inside b ⌝ }
+        requires { ⌜ Room edgeNumbers at (leaveEdges t self b) ⌝ }
+        ensures { λ r. ⌜ Leaves (now (out .entry)) at t self b (now (out .exit)) r ⌝ }
+    {
+        let a = self.at;
+        let chain = self.chain;
+        let previous = self.previous;
+        if covered(previous, b) {
+            let ended = chain.finish(out, at, t, Cap::Round);
+            let begun = ended.chain.start(ended.at, a, Cap::Butt);
+            let next = begun.chain;
+            return Left {
+                chain: next,
+                closing: Cap::Butt,
+                at: begun.at,
+            };
+        }
+        Left {
+            chain: chain,
+            closing: Cap::Round,
+            at: at,
+        }
+    }
+
+    // A drawn step.
+    fn drawn(self, out: &mut [i32], at: usize, t: Vector, b: Vertex) -> Walked
+        requires { ⌜ UnitLong t × AroundWalk self × Inside b × (kindOf (self .at) b ≡ Drawn) ⌝ }
+        requires { ⌜ Room edgeNumbers at (emittedOf t self b) ⌝ }
+        ensures { λ r. ⌜ Walks (now (out .entry)) at t self b (now (out .exit)) r ⌝ }
+    {
+        let a = self.at;
+        let left = self.leave(out, at, t, b);
+        let chain = left.chain;
+        let closing = left.closing;
+        let s = section(a, b);
+        let stepped = chain.step(out, left.at, t, s);
+        let next = stepped.chain;
+        Walked {
+            walk: Walk {
+                at: b,
+                chain: next,
+                previous: Last::Held(s),
+                closing: closing,
+            },
+            at: stepped.at,
+        }
+    }
+
+    // A thin step: nothing is drawn, and the last section stays.
+    fn thin(self, out: &mut [i32], at: usize, t: Vector, b: Vertex) -> Walked
+        requires { ⌜ UnitLong t × AroundWalk self × Inside b × (kindOf (self .at) b ≡ Thin) ⌝ }
+        requires { ⌜ Room edgeNumbers at (emittedOf t self b) ⌝ }
+        ensures { λ r. ⌜ Walks (now (out .entry)) at t self b (now (out .exit)) r ⌝ }
+    {
+        let left = self.leave(out, at, t, b);
+        let closing = left.closing;
+        let mut chain = left.chain;
+        chain.mark = true;
+        Walked {
+            walk: Walk {
+                at: b,
+                chain: chain,
+                previous: Last::Nothing,
+                closing: closing,
+            },
+            at: left.at,
+        }
+    }
+
+    // The step to the next vertex.
+    pub fn step(self, out: &mut [i32], at: usize, t: Vector, b: Vertex) -> Walked
+        requires { ⌜ UnitLong t × AroundWalk self × Inside b ⌝ }
+        requires { ⌜ Room edgeNumbers at (emittedOf t self b) ⌝ }
+        ensures { λ r. ⌜ Walks (now (out .entry)) at t self b (now (out .exit)) r ⌝ }
+    {
+        let a = self.at;
+        let k = kind(a, b);
+        match k {
+            Kind::Broken => self.broken(out, at, t, b),
+            Kind::Drawn => self.drawn(out, at, t, b),
+            Kind::Thin => self.thin(out, at, t, b),
+        }
+    }
+
+    // The closing body.
+    pub fn close(self, out: &mut [i32], at: usize, t: Vector) -> usize
+        requires { ⌜ UnitLong t × AroundWalk self ⌝ }
+        requires { ⌜ Room edgeNumbers at (finishOf t (self .chain) (self .closing)) ⌝ }
+        ensures { λ n. ⌜ Runs put edgeNumbers (now (out .entry)) at (finishOf t (self .chain) (self .closing)) (now (out .exit)) n ⌝ }
+    {
+        let chain = self.chain;
+        let closing = self.closing;
+        chain.end(out, at, t, closing)
+    }
+}

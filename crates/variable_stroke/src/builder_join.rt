@@ -1,0 +1,188 @@
+// Caps and joins; follows src/mesh/int/variable_stroke/builder_join.rs.
+use crate::Cap;
+use crate::Section;
+use crate::Trend;
+use crate::Vertex;
+use crate::math::centre;
+use crate::math::line;
+use arc::Edge;
+use arc::Sweep;
+use arc::arcs::arc;
+use arc::edges::edge;
+use plane::Point;
+use plane::Vector;
+use plane::vectors::cross;
+use plane::vectors::from_to;
+use plane::vectors::same;
+ghost use mathlib.Core.Path.{_≡_};
+ghost use mathlib.Core.Bool.{true};
+ghost use Rattle.runs.specs.Runs.{Runs, Room, put};
+ghost use Rattle.plane.specs.Vectors.{Near};
+ghost use Rattle.plane.specs.Directions.{UnitLong};
+ghost use Rattle.arc.specs.Edges.{edgeNumbers};
+ghost use Rattle.arc.specs.Bounds.{About, Reach};
+ghost use Rattle.variable_stroke.specs.Contacts.{centreOf};
+ghost use Rattle.variable_stroke.specs.Joins.{arcAbout, startChoice, startCap, endChoice, endCap, alongOf, bendOf, leftTurns, leftJoin, rightTurns, rightJoin, sameCentre, gapOf, joinOf};
+ghost use Rattle.variable_stroke.specs.Bounds.{Inside, Around};
+
+// An arc between two contacts of a vertex.
+fn arc_about(
+    out: &mut [i32],
+    at: usize,
+    t: Vector,
+    v: Vertex,
+    p: Point,
+    q: Point,
+    choice: Sweep,
+) -> usize
+    requires { ⌜ UnitLong t × Inside v × About (centreOf v) p × About (centreOf v) q ⌝ }
+    requires { ⌜ Room edgeNumbers at (arcAbout t v p q choice) ⌝ }
+    ensures { λ n. ⌜ Runs put edgeNumbers (now (out .entry)) at (arcAbout t v p q choice) (now (out .exit)) n ⌝ }
+{
+    arc(out, at, t, centre(v), v.radius, p, q, choice)
+}
+
+// How a start cap sweeps where its rays are aligned.
+fn start_choice(trend: Trend) -> Sweep
+    ensures { λ w. ⌜ w ≡ startChoice trend ⌝ }
+{
+    match trend {
+        Trend::Decreasing => Sweep::Major,
+        Trend::Constant => Sweep::Minor,
+        Trend::Increasing => Sweep::Minor,
+    }
+}
+
+// How an end cap sweeps where its rays are aligned.
+fn end_choice(trend: Trend) -> Sweep
+    ensures { λ w. ⌜ w ≡ endChoice trend ⌝ }
+{
+    match trend {
+        Trend::Decreasing => Sweep::Minor,
+        Trend::Constant => Sweep::Minor,
+        Trend::Increasing => Sweep::Major,
+    }
+}
+
+// The cap where a chain starts.
+pub fn start_cap(out: &mut [i32], at: usize, t: Vector, s: Section, cap: Cap) -> usize
+    requires { ⌜ UnitLong t × Around s ⌝ }
+    requires { ⌜ Room edgeNumbers at (startCap t s cap) ⌝ }
+    ensures { λ n. ⌜ Runs put edgeNumbers (now (out .entry)) at (startCap t s cap) (now (out .exit)) n ⌝ }
+{
+    let p = s.left.a;
+    let q = s.right.a;
+    let trend = s.trend;
+    let a = s.a;
+    match cap {
+        Cap::Butt => edge(out, at, p, q),
+        Cap::Round => arc_about(out, at, t, a, p, q, start_choice(trend)),
+    }
+}
+
+// The cap where a chain ends.
+pub fn end_cap(out: &mut [i32], at: usize, t: Vector, s: Section, cap: Cap) -> usize
+    requires { ⌜ UnitLong t × Around s ⌝ }
+    requires { ⌜ Room edgeNumbers at (endCap t s cap) ⌝ }
+    ensures { λ n. ⌜ Runs put edgeNumbers (now (out .entry)) at (endCap t s cap) (now (out .exit)) n ⌝ }
+{
+    let p = s.right.b;
+    let q = s.left.b;
+    let trend = s.trend;
+    let b = s.b;
+    match cap {
+        Cap::Butt => edge(out, at, p, q),
+        Cap::Round => arc_about(out, at, t, b, p, q, end_choice(trend)),
+    }
+}
+
+// The vector of a side, from a's contact to b's.
+fn along(e: Edge) -> Vector
+    requires { ⌜ Reach e ⌝ }
+    ensures { λ v. ⌜ v ≡ alongOf e ⌝ }
+{
+    from_to(e.a, e.b)
+}
+
+// How the centre line bends between two sections.
+fn bend(prev: Section, next: Section) -> i64
+    requires { ⌜ Around prev × Around next ⌝ }
+    ensures { λ z. ⌜ z ≡ bendOf prev next ⌝ }
+{
+    cross(line(prev.a, prev.b), line(next.a, next.b))
+}
+
+// Whether the left of a join turns about the vertex.
+fn left_turns(prev: Section, next: Section) -> bool
+    requires { ⌜ Around prev × Around next ⌝ }
+    ensures { λ r. ⌜ r ≡ leftTurns prev next ⌝ }
+{
+    if 0 < cross(along(next.left), along(prev.left)) {
+        return true;
+    }
+    bend(prev, next) < 0
+}
+
+// Whether its right does.
+fn right_turns(prev: Section, next: Section) -> bool
+    requires { ⌜ Around prev × Around next ⌝ }
+    ensures { λ r. ⌜ r ≡ rightTurns prev next ⌝ }
+{
+    if 0 < cross(along(prev.right), along(next.right)) {
+        return true;
+    }
+    0 <= bend(prev, next)
+}
+
+// The left of a join: from the next section back to the previous one.
+fn left_join(out: &mut [i32], at: usize, t: Vector, prev: Section, next: Section) -> usize
+    requires { ⌜ UnitLong t × Around prev × Around next × (sameCentre prev next ≡ true) ⌝ }
+    requires { ⌜ Room edgeNumbers at (leftJoin t prev next) ⌝ }
+    ensures { λ n. ⌜ Runs put edgeNumbers (now (out .entry)) at (leftJoin t prev next) (now (out .exit)) n ⌝ }
+{
+    let p = next.left.a;
+    let q = prev.left.b;
+    let v = next.a;
+    if left_turns(prev, next) {
+        return arc_about(out, at, t, v, p, q, Sweep::Minor);
+    }
+    edge(out, at, p, q)
+}
+
+// The right of a join: from the previous section to the next one.
+fn right_join(out: &mut [i32], at: usize, t: Vector, prev: Section, next: Section) -> usize
+    requires { ⌜ UnitLong t × Around prev × Around next × (sameCentre prev next ≡ true) ⌝ }
+    requires { ⌜ Room edgeNumbers at (rightJoin t prev next) ⌝ }
+    ensures { λ n. ⌜ Runs put edgeNumbers (now (out .entry)) at (rightJoin t prev next) (now (out .exit)) n ⌝ }
+{
+    let p = prev.right.b;
+    let q = next.right.a;
+    let v = prev.b;
+    if right_turns(prev, next) {
+        return arc_about(out, at, t, v, p, q, Sweep::Major);
+    }
+    edge(out, at, p, q)
+}
+
+// A gap: the previous section ends, and the next one starts, with a straight edge.
+fn gap(out: &mut [i32], at: usize, t: Vector, prev: Section, next: Section) -> usize
+    requires { ⌜ UnitLong t × Around prev × Around next ⌝ }
+    requires { ⌜ Room edgeNumbers at (gapOf t prev next) ⌝ }
+    ensures { λ n. ⌜ Runs put edgeNumbers (now (out .entry)) at (gapOf t prev next) (now (out .exit)) n ⌝ }
+{
+    let n = end_cap(out, at, t, prev, Cap::Butt);
+    start_cap(out, n, t, next, Cap::Butt)
+}
+
+// The join of two sections: about the vertex that they share, or across the gap between them.
+pub fn join(out: &mut [i32], at: usize, t: Vector, prev: Section, next: Section) -> usize
+    requires { ⌜ UnitLong t × Around prev × Around next ⌝ }
+    requires { ⌜ Room edgeNumbers at (joinOf t prev next) ⌝ }
+    ensures { λ n. ⌜ Runs put edgeNumbers (now (out .entry)) at (joinOf t prev next) (now (out .exit)) n ⌝ }
+{
+    if same(centre(prev.b), centre(next.a)) {
+        let n = left_join(out, at, t, prev, next);
+        return right_join(out, n, t, prev, next);
+    }
+    gap(out, at, t, prev, next)
+}
