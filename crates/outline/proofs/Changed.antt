@@ -45,7 +45,7 @@ entries-count (suc n) (x ∷ y ∷ []) = omega arith
 entries-count (suc n) (x ∷ y ∷ r ∷ []) = omega arith
 entries-count (suc n) (x ∷ y ∷ r ∷ c ∷ ws) = omega (arith, entries-count n ws)
 
-outside-most : (vs : List Vertex) → firstOutside vs ≤ length vs
+pub outside-most : (vs : List Vertex) → firstOutside vs ≤ length vs
 unfolding firstOutside
 outside-most [] = omega arith
 outside-most (v ∷ vs) = go (allowedOf v) (outside-most vs)

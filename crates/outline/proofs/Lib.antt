@@ -4,3 +4,5 @@ pub mod ReadBack
 pub mod Changed
 pub mod OneOutcome
 pub mod Differing
+pub mod Rows
+pub mod PathChecks

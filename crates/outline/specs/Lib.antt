@@ -5,3 +5,4 @@ pub mod Replies
 pub mod Answers
 pub mod Examples
 pub mod Theorems
+pub mod Checks

@@ -1,4 +1,6 @@
-// The kept outline and the public calls: draw, keep, read, replace.
+// The kept outline, and what the four calls answer: draw, keep, read, replace.
+pub mod drawing;
+pub mod path_rows;
 
 // Why a call is refused, each with the number that goes beside its reply.
 pub enum Refusal {

@@ -1,0 +1,162 @@
+-- The rows of a path, one law for each outcome of its tests; and what draw makes of a path that passed. Assumes nothing.
+use mathlib.Core.Path.{_≡_, refl, sym, ap, _∙_}
+use mathlib.Core.Bool.{Bool, true, false, not, _||_}
+use mathlib.Core.List.{List, [], _∷_, _++_}
+use Prim.Native.Nat.{ℕ, zero, suc, _+_, _-_, _*_, _/_, _%_, _^_, _≤_, _<_}
+use native.Mathlib.Nat.{mul-comm, mul-le-mul, le-antisymm}
+use native.Mathlib.Omega.{arith}
+use lib.Dec.{eqb, ltb}
+use lib.IntN.{ℤ, pos, natAbs}
+use lib.ListN.{length, drop}
+use lib.Pow.{pow-pos}
+use borrow.Author.Tests.{eq-eqb, ne-eqb, lt-ltb, le-ltb}
+use Rattle.runs.specs.Runs.{spread, Runs, Room, put}
+use Rattle.runs.proofs.Laws.{spread-length}
+use Rattle.runs.proofs.Written.{written-whole}
+use Rattle.plane.specs.Vectors.{squareOf}
+use Rattle.plane.specs.Directions.{UnitLong, stepOf, directionOf}
+use Rattle.plane.proofs.Directions.{direction-unit}
+use Rattle.plane.specs.declared.Vector.{Vector}
+use Rattle.arc.specs.Edges.{edgeNumbers}
+use Rattle.arc.specs.declared.Edge.{Edge}
+use Rattle.variable_stroke.specs.Limits.{firstOutside}
+use Rattle.variable_stroke.specs.Paths.{pathOf, bodiesAt, bodiesOf, joined, edgesOf}
+use Rattle.variable_stroke.proofs.Most.{edges-most}
+use Rattle.variable_stroke.proofs.PathWalk.{path-count}
+use Rattle.variable_stroke.specs.declared.Vertex.{Vertex}
+use Rattle.outline.specs.Replies.{Reply, Row, firstRow, triplesRow, gradeRow, countRow, outsideRow, pathRows, drawReply, drawOut}
+use Rattle.outline.specs.Answers.{refusalOf, replyOfDrawn, Draws}
+use Rattle.outline.specs.Checks.{Fits, orPath, PathSays}
+use Rattle.outline.specs.Theorems.{Within}
+use Rattle.outline.proofs.Rows.{rows-append, room-short, room-enough, refused-written, done-written}
+use Rattle.outline.proofs.Changed.{outside-most}
+use Rattle.outline.specs.declared.Refusal.{Refusal}
+use Rattle.outline.specs.declared.Refusal.the-variants.{NotTriples, TooMany, Grade, Outside, NoRoom}
+use Rattle.outline.specs.declared.Drawn.{Drawn}
+use Rattle.outline.specs.declared.Drawn.the-variants as drawn
+use Rattle.outline.specs.declared.path_rows.PathCheck.{PathCheck}
+use Rattle.outline.specs.declared.path_rows.PathCheck.the-variants.{Passed, Refused}
+
+-- ---- the rows
+
+-- a refusal is no pass
+refused-not : (r : Refusal) (n : ℕ) → Refused r ≡ Passed n → ⊥
+refused-not r n e = let z : _≡_ {A = ℕ} 0 1 = cc in omega arith
+
+module _ (path : List ℤ) (g : ℕ) where
+  refused : (r : Refusal) → ((more : Reply) → firstRow (pathRows path g) more ≡ refusalOf r) → PathSays path g (Refused r)
+  unfolding orPath
+  refused r h = record { says = h; fits = λ n e. absurd (refused-not r n e) }
+
+  pub not-triples : (length path % 3 ≡ 0 → ⊥) → PathSays path g (Refused (NotTriples (length path)))
+  unfolding pathRows triplesRow firstRow refusalOf
+  not-triples h = refused (NotTriples (length path)) (λ more. rw (ne-eqb (length path % 3) 0 h, firstRow))
+
+  module _ (h₁ : length path % 3 ≡ 0) where
+    pub grade-low : g < 1 → PathSays path g (Refused (Grade g))
+    unfolding pathRows triplesRow gradeRow firstRow refusalOf
+    grade-low h = refused (Grade g) (λ more. rw (eq-eqb (length path % 3) 0 h₁, firstRow, lt-ltb g 1 h, firstRow))
+
+    module _ (low : 1 ≤ g) where
+      pub grade-high : 8 < g → PathSays path g (Refused (Grade g))
+      unfolding pathRows triplesRow gradeRow firstRow refusalOf
+      grade-high h = refused (Grade g) (λ more. rw (eq-eqb (length path % 3) 0 h₁, firstRow, le-ltb g 1 low, lt-ltb 8 g h, firstRow))
+
+      module _ (high : g ≤ 8) where
+        pub too-many : 4096 < length path / 3 → PathSays path g (Refused (TooMany (length path / 3)))
+        unfolding pathRows triplesRow gradeRow countRow firstRow refusalOf
+        too-many h = refused (TooMany (length path / 3))
+            (λ more. rw (eq-eqb (length path % 3) 0 h₁, firstRow, le-ltb g 1 low, le-ltb 8 g high, firstRow, path-count path, lt-ltb 4096 (length path / 3) h, firstRow) (ap (λ (n : ℕ). (2, n)) (path-count path)))
+
+        module _ (few : length path / 3 ≤ 4096) where
+          count : length (pathOf path) ≤ 4096
+          count = omega (arith, path-count path)
+
+          pub outside : {i : ℕ} → i ≡ firstOutside (pathOf path) → i < length path / 3 → PathSays path g (Refused (Outside i))
+          unfolding pathRows triplesRow gradeRow countRow outsideRow firstRow refusalOf
+          outside {i} e h =
+              let k : firstOutside (pathOf path) < length (pathOf path) = omega (arith, path-count path) in
+              refused (Outside i)
+              (λ more. rw (e, eq-eqb (length path % 3) 0 h₁, firstRow, le-ltb g 1 low, le-ltb 8 g high, firstRow, le-ltb 4096 (length (pathOf path)) count, firstRow, lt-ltb (firstOutside (pathOf path)) (length (pathOf path)) k, firstRow))
+
+          pub passes : {i : ℕ} → i ≡ firstOutside (pathOf path) → length path / 3 ≤ i → PathSays path g (Passed (length path / 3))
+          unfolding pathRows triplesRow gradeRow countRow outsideRow firstRow orPath
+          passes {i} e h =
+              let k : length (pathOf path) ≤ firstOutside (pathOf path) = omega (arith, path-count path) in
+              let says : (more : Reply) → firstRow (pathRows path g) more ≡ more =
+              λ more. rw (eq-eqb (length path % 3) 0 h₁, firstRow, le-ltb g 1 low, le-ltb 8 g high, firstRow, le-ltb 4096 (length (pathOf path)) count, firstRow, le-ltb (firstOutside (pathOf path)) (length (pathOf path)) k, firstRow) in
+              record {
+                says = says;
+                fits = λ n f. record {
+                  count = let c : length path / 3 ≡ n = cc in sym c ∙ sym (path-count path);
+                  within = record { low = low; high = high; count = count; inside = le-antisymm (outside-most (pathOf path)) k };
+                  passed = says;
+                };
+              }
+
+-- ---- drawing a path that passed
+
+square-some : (m n : ℕ) → 0 < n → 0 < m * m + n * n
+square-some m zero h = absurd (omega arith)
+square-some m (suc n) h = omega (arith, mul-le-mul {n₁ = 1} {m₁ = 1} {n₂ = suc n} {m₂ = suc n} (omega arith) (omega arith))
+
+-- the step of a grade is no longer than 2^30
+pub step-unit : (k : ℕ) {t : Vector} → t ≡ stepOf k → UnitLong t
+unfolding stepOf squareOf
+step-unit k e = rw e (direction-unit (record { x = pos (4 ^ k - 1); y = pos (2 ^ (k + 1)) }) (square-some (4 ^ k - 1) (2 ^ (k + 1)) (pow-pos (k + 1))))
+
+pub edges-four : (es : List Edge) → length (spread edgeNumbers es) ≡ 4 * length es
+unfolding edgeNumbers
+edges-four es = spread-length edgeNumbers 4 (λ e. refl) es ∙ mul-comm (length es) 4
+
+-- the walk's edges are those of the rules
+pub walk-edges : (g : ℕ) (vs : List Vertex) {t : Vector} → t ≡ stepOf g → joined (bodiesAt t vs) ≡ edgesOf g vs
+unfolding edgesOf bodiesOf
+walk-edges g vs e = rw e
+
+pub walk-room : (path : List ℤ) {g n : ℕ} {t : Vector} → Fits path g n → t ≡ stepOf g → Room edgeNumbers 0 (joined (bodiesAt t (pathOf path)))
+walk-room path {g} h e =
+    let es = edgesOf g (pathOf path) in
+    rw (walk-edges g (pathOf path) e) (record { fits = omega (arith, edges-four es, edges-most g (pathOf path), h .within .count) })
+
+-- w is the position that the walk came to
+module _ (path : List ℤ) {g n w : ℕ} {t : Vector} {l l₁ : List ℤ} (h : Fits path g n) (e : t ≡ stepOf g)
+    (p : Runs put edgeNumbers l 0 (joined (bodiesAt t (pathOf path))) l₁ w) where
+  numbers : w ≡ 4 * length (edgesOf g (pathOf path))
+  numbers = omega (arith, p .pos, edges-four (edgesOf g (pathOf path)), ap (λ (es : List Edge). length (spread edgeNumbers es)) (walk-edges g (pathOf path) e))
+
+  count-of : w / 4 ≡ length (edgesOf g (pathOf path))
+  count-of = omega (arith, numbers)
+
+  pub draws-short : (out : List ℤ) → length out < w → Draws path g out (drawn.Refused (NoRoom (w / 4))) out
+  unfolding drawReply drawOut replyOfDrawn refusalOf
+  draws-short out k =
+      let m = length (edgesOf g (pathOf path)) in
+      let r : (5, w / 4) ≡ drawReply path g (length out) =
+      sym (rows-append (pathRows path g) _ (0, m) ∙ h .passed _ ∙ room-short (4 * m) (length out) m (0, m) (omega (arith, numbers)) ∙ ap (λ (x : ℕ). (5, x)) (sym count-of)) in
+      record { reply = r; out = refused-written (NoRoom (w / 4)) (spread edgeNumbers (edgesOf g (pathOf path))) out r }
+
+pub draws-done : (path : List ℤ) {g n w : ℕ} {t : Vector} {out out₁ : List ℤ} → Fits path g n → t ≡ stepOf g
+    → Runs put edgeNumbers out 0 (joined (bodiesAt t (pathOf path))) out₁ w → w ≤ length out → Draws path g out (drawn.Edges (w / 4)) out₁
+unfolding drawReply drawOut replyOfDrawn
+draws-done path {g} {n} {w} {t} {out} {out₁} h e p k =
+    let es = edgesOf g (pathOf path) in
+    let m = length es in
+    let r : (0, w / 4) ≡ drawReply path g (length out) =
+    ap (λ (x : ℕ). (0, x)) (count-of path h e p) ∙ sym (rows-append (pathRows path g) _ (0, m) ∙ h .passed _ ∙ room-enough (4 * m) (length out) m (0, m) (omega (arith, numbers path h e p))) in
+    record {
+      reply = r;
+      out = written-whole (rw (walk-edges g (pathOf path) e) at p) (omega (arith, numbers path h e p, edges-four es)) ∙ done-written (w / 4) (spread edgeNumbers es) out r;
+    }
+
+-- whatever further rows say, a refusal of the path's rows is the reply
+pub path-refuses : (path : List ℤ) {g : ℕ} {c : PathCheck} {r : Refusal} (more : List Row) (last : Reply) → PathSays path g c → c ≡ Refused r → refusalOf r ≡ firstRow (pathRows path g ++ more) last
+unfolding orPath
+path-refuses path {g} {c} more last s e =
+    sym (rows-append (pathRows path g) more last ∙ s .says (firstRow more last) ∙ ap (λ (x : PathCheck). orPath x (firstRow more last)) e)
+
+pub draws-refused : (path : List ℤ) {g : ℕ} {c : PathCheck} (out : List ℤ) {r : Refusal} → PathSays path g c → c ≡ Refused r → Draws path g out (drawn.Refused r) out
+unfolding drawReply drawOut replyOfDrawn
+draws-refused path {g} {c} out {r} s e =
+    let k : refusalOf r ≡ drawReply path g (length out) = path-refuses path _ _ s e in
+    record { reply = k; out = refused-written r (spread edgeNumbers (edgesOf g (pathOf path))) out k }
