@@ -96,15 +96,6 @@ module _ (path : List ℤ) (g : ℕ) where
 
 -- ---- drawing a path that passed
 
-square-some : (m n : ℕ) → 0 < n → 0 < m * m + n * n
-square-some m zero h = absurd (omega arith)
-square-some m (suc n) h = omega (arith, mul-le-mul {n₁ = 1} {m₁ = 1} {n₂ = suc n} {m₂ = suc n} (omega arith) (omega arith))
-
--- the step of a grade is no longer than 2^30
-pub step-unit : (k : ℕ) {t : Vector} → t ≡ stepOf k → UnitLong t
-unfolding stepOf squareOf
-step-unit k e = rw e (direction-unit (record { x = pos (4 ^ k - 1); y = pos (2 ^ (k + 1)) }) (square-some (4 ^ k - 1) (2 ^ (k + 1)) (pow-pos (k + 1))))
-
 pub edges-four : (es : List Edge) → length (spread edgeNumbers es) ≡ 4 * length es
 unfolding edgeNumbers
 edges-four es = spread-length edgeNumbers 4 (λ e. refl) es ∙ mul-comm (length es) 4

@@ -9,3 +9,4 @@ pub mod Covers
 pub mod CapsAndJoins
 pub mod ChainSteps
 pub mod PathWalk
+pub mod Reach

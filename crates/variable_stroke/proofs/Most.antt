@@ -15,7 +15,7 @@ use Rattle.variable_stroke.specs.Contacts.{centreOf, kindOf, sectionOf}
 use Rattle.variable_stroke.specs.Covering.{coveredOf}
 use Rattle.variable_stroke.specs.Joins.{innerOf, arcAbout, startCap, endCap, startChoice, endChoice, leftTurns, rightTurns, sameCentre, leftJoin, rightJoin, gapOf, joinOf}
 use Rattle.variable_stroke.specs.Chains.{bothButt, loneOf, finishLast, finishOf, meetLast, drawnOf, breakEnd, leaveEdges, leaveChain, emittedOf, nextOf, startOf}
-use Rattle.variable_stroke.specs.Paths.{bodiesFrom, bodiesAt, bodiesOf, joined, edgesOf}
+use Rattle.variable_stroke.specs.Paths.{bodiesFrom, bodiesAt, bodiesOf, joined, edgesOf, EdgesMost}
 use Rattle.variable_stroke.specs.declared.Vertex.{Vertex}
 use Rattle.variable_stroke.specs.declared.Section.{Section}
 use Rattle.variable_stroke.specs.declared.Kind.{Kind}
@@ -104,6 +104,6 @@ unfolding bodiesAt joined
 at-most t [] = most-none _
 at-most t (v ∷ vs) = most-up (omega arith) (from-most t (startOf v) vs)
 
-pub edges-most : (g : ℕ) (vs : List Vertex) → length (edgesOf g vs) ≤ 9227 * length vs + 3075
+pub edges-most : EdgesMost
 unfolding edgesOf bodiesOf
 edges-most g vs = at-most (stepOf g) vs .most

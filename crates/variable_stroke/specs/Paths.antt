@@ -1,12 +1,15 @@
 -- Document 01, "Chains" and "The kept outline": a path's edges, by the vertex on whose reaching they are emitted.
+use mathlib.Core.Path.{_≡_}
 use mathlib.Core.List.{List, [], _∷_, _++_}
-use Prim.Native.Nat.{ℕ}
+use Prim.Native.Nat.{ℕ, _+_, _*_, _≤_}
 use lib.IntN.{ℤ, pos}
 use lib.ListN.{length, getD}
 use Rattle.runs.specs.Runs.{spread}
 use Rattle.plane.specs.Directions.{stepOf}
 use Rattle.plane.specs.declared.Vector.{Vector}
+use Rattle.arc.specs.Bounds.{AllReach}
 use Rattle.arc.specs.declared.Edge.{Edge}
+use Rattle.variable_stroke.specs.Limits.{firstOutside}
 use Rattle.variable_stroke.specs.Chains.{finishOf, emittedOf, nextOf, startOf}
 use Rattle.variable_stroke.specs.declared.Vertex.{Vertex}
 use Rattle.variable_stroke.specs.declared.Walk.{Walk}
@@ -52,3 +55,11 @@ joined (b ∷ bs) = b ++ joined bs
 -- the edges of document 01's rules, in order
 unfoldable pub edgesOf : ℕ → List Vertex → List Edge
 edgesOf g vs = joined (bodiesOf g vs)
+
+-- No edge of a path within the limits ends farther than 2^29 from the origin, in either coordinate.
+abbrev pub EdgesReach : Type 0
+EdgesReach = (g : ℕ) (vs : List Vertex) → firstOutside vs ≡ length vs → AllReach (edgesOf g vs)
+
+-- No path within the limits has more than 9,227 edges a vertex and 3,075 more.
+abbrev pub EdgesMost : Type 0
+EdgesMost = (g : ℕ) (vs : List Vertex) → length (edgesOf g vs) ≤ 9227 * length vs + 3075
