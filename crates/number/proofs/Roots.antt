@@ -2,13 +2,13 @@
 use mathlib.Core.Path.{_≡_, refl, sym, ap, _∙_}
 use mathlib.Core.Bool.{Bool, true, false}
 use Prim.Native.Nat.{ℕ, zero, suc, _+_, _-_, _*_, _/_, _^_, _≤_, _<_}
-use native.Mathlib.Nat.{mul-comm, zero-mul, mul-le-mul, lt-of-not-le, lt-of-le-of-lt, le-antisymm, le-div-iff-mul-le, div-lt-iff-lt-mul}
+use native.Mathlib.Nat.{mul-comm, zero-mul, mul-le-mul, lt-of-not-le, lt-of-le-of-lt, le-antisymm, le-div-iff-mul-le, div-lt-iff-lt-mul, div-le-of-le-mul}
 use native.Mathlib.Decide.{decLe}
 use native.Mathlib.Omega.{arith}
 use lib.Dec.{leb, ltb}
 use borrow.Author.Tests.{leb-true, leb-false, le-leb, lt-leb, ltb-true, ltb-false}
-use Rattle.whole.proofs.Squares.{square-next, square-double, below-next, square-lt}
-use Rattle.number.specs.Root.{Root, correctedOf, rootIn, rootOf, rootUpOf}
+use Rattle.whole.proofs.Squares.{square-next, square-double, square-below, below-next, square-lt}
+use Rattle.number.specs.Root.{Root, correctedOf, rootIn, rootOf, rootUpOf, More}
 
 -- ---- the root of n from that of n / 4
 
@@ -95,3 +95,30 @@ up-none r l c e = le-leb (r * rootUpOf l) c (rw (e, zero-mul) (omega arith))
 
 pub up-large : (q l : ℕ) → l ≤ 2 ^ 62 → 2 ^ 31 ≤ q → l ≤ q * q
 up-large q l h k = omega (arith, mul-le-mul {n₁ = 2 ^ 31} {m₁ = 2 ^ 31} k k)
+
+-- ---- a guess at a root
+
+-- a quotient by a large number is small
+pub quo-most : (t a : ℕ) → t < 2 ^ 64 → 2 ^ 29 ≤ a → t / a ≤ 2 ^ 35
+quo-most t a h k = div-le-of-le-mul a (omega arith)
+
+-- ---- a guess settled: n is below the square of one more than 2^32 - 1, in any case
+
+pub settled-top : (n g : ℕ) → n < 2 ^ 64 → 2 ^ 32 - 1 ≤ g → n < (g + 1) * (g + 1)
+settled-top n g h k = omega (arith, mul-le-mul {n₁ = 2 ^ 32} {m₁ = 2 ^ 32} {n₂ = g + 1} {m₂ = g + 1} (omega arith) (omega arith))
+
+-- what the tests square stays small
+pub guess-square : (g : ℕ) → g < 2 ^ 32 → g * g < 2 ^ 64
+guess-square g h = square-below 32 h
+
+-- nothing lies below 0
+pub not-none : (n g : ℕ) → n < g * g → 0 < g
+not-none n zero h = absurd (omega arith)
+not-none n (suc g) h = omega arith
+
+-- what the test says, with s for the square of one more
+pub more-told : (n r : ℕ) {s : ℕ} → s ≡ (r + 1) * (r + 1) → More n r (leb s n)
+more-told n r {s} e = record { yes = λ f. rw e at (leb-true s n f); no = λ f. rw e at (leb-false s n f) }
+
+pub root-none : (n : ℕ) → n ≡ 0 → 0 ≡ rootOf n
+root-none n e = root-only n 0 (record { low = omega arith; high = omega arith })

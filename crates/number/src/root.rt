@@ -1,8 +1,10 @@
 // The integer root.
+use crate::guess::level;
+use crate::guess::near_root;
 ghost use mathlib.Core.Path.{_≡_};
-ghost use Prim.Native.Nat.{_*_, _^_, _≤_};
+ghost use Prim.Native.Nat.{_*_, _^_, _<_, _≤_};
 ghost use lib.Dec.{leb};
-ghost use Rattle.number.specs.Root.{rootOf, rootUpOf};
+ghost use Rattle.number.specs.Root.{rootOf, rootUpOf, More};
 
 // The largest r with r * r <= n, from the root q of n / 4: twice q, or one more where (2q + 1)^2 = 4(q^2 + q) + 1 is at most n.
 pub fn root(n: u64) -> u32
@@ -15,6 +17,69 @@ pub fn root(n: u64) -> u32
     let w = q as u64;
     let r = 2 * q;
     if 4 * (w * w + w) < n { r + 1 } else { r }
+}
+
+// The first number from g down whose square is at most n.
+fn down(g: u32, n: u64) -> u32
+    ensures { λ r. ⌜ r * r ≤ n ⌝ }
+{
+    let mut r = g;
+    while n < square(r) {
+        r -= 1;
+    }
+    r
+}
+
+// The last number from g up whose square is at most n.
+fn up(g: u32, n: u64) -> u32
+    requires { ⌜ g * g ≤ n ⌝ }
+    ensures { λ r. ⌜ r ≡ rootOf n ⌝ }
+{
+    let mut r = g;
+    while more(r, n) {
+        r += 1;
+    }
+    r
+}
+
+// r * r.
+fn square(r: u32) -> u64
+    ensures { λ s. ⌜ s ≡ r * r ⌝ }
+{
+    let w = r as u64;
+    w * w
+}
+
+// Whether the square of one more than r is at most n too.
+fn more(r: u32, n: u64) -> bool
+    ensures { λ b. ⌜ More n r b ⌝ }
+{
+    if r == 0xffff_ffff {
+        return false;
+    }
+    square(r + 1) <= n
+}
+
+// A number of 32 bits near the root of n.
+fn guess(n: u64) -> u32
+    requires { ⌜ 0 < n ⌝ }
+{
+    let k = level(n);
+    let g = near_root(n << (2 * k)) >> k;
+    if g < 0xffff_ffff {
+        return g as u32;
+    }
+    0xffff_ffff
+}
+
+// The same root by a guess that exact tests settle: the quicker way to a large one.
+pub fn quick_root(n: u64) -> u32
+    ensures { λ r. ⌜ r ≡ rootOf n ⌝ }
+{
+    if n == 0 {
+        return 0;
+    }
+    up(down(guess(n), n), n)
 }
 
 // Whether r times the root of l, rounded up, is at most c: with q = c / r, whether l is at most q * q. No root is taken.

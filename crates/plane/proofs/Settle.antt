@@ -41,7 +41,3 @@ square-most n h = mul-le-mul {n₂ = 2 ^ 31} {m₂ = 2 ^ 31} h h
 pub not-none : (n s m : ℕ) → m < n * n * s → 0 < n
 not-none zero s m h = absurd (omega (arith, zero-mul s))
 not-none (suc n) s m h = omega arith
-
--- a quotient by a large number is small
-pub quo-most : (t a : ℕ) → t < 2 ^ 64 → 2 ^ 29 ≤ a → t / a ≤ 2 ^ 35
-quo-most t a h k = div-le-of-le-mul a (omega arith)

@@ -1,5 +1,7 @@
 // The direction of a vector, by a guess that exact tests settle, and the step of a grade.
 use crate::Vector;
+use number::guess::level;
+use number::guess::near_root;
 use number::sign::signed;
 use number::sign::size;
 use number::wide::product;
@@ -48,35 +50,6 @@ fn up(g: u64, c: u64, s: u64) -> u64
         n += 1;
     }
     n
-}
-
-// Two lines along the root of t, within one part in a hundred and thirty of it where t is at least 2^62.
-fn first(t: u64) -> u64
-    ensures { λ r. ⌜ (2 ^ 30 ≤ r) × (r ≤ 2 ^ 33) ⌝ }
-{
-    let m = t / 0x400_0000_0000;
-    if t < 0x8000_0000_0000_0000 {
-        1267380000 + m * 855
-    } else {
-        1792333000 + m * 604
-    }
-}
-
-// A number near the root of t, where t is at least 2^62, by two of Newton's steps. Only that it is not 0 matters to the result.
-fn near_root(t: u64) -> u64
-    ensures { λ r. ⌜ 0 < r ⌝ }
-{
-    let a = first(t);
-    let b = (a + t / a) / 2;
-    (b + t / b) / 2
-}
-
-// Half the leading zeros of s, so that s * 4^k is at least 2^62.
-fn level(s: u64) -> u32
-    requires { ⌜ 0 < s ⌝ }
-    ensures { λ k. ⌜ k ≤ 31 ⌝ }
-{
-    u64::leading_zeros(s) / 2
 }
 
 // A number near c * 2^30 / root of s, with h near the root of s * 4^k.

@@ -1,10 +1,10 @@
--- `plane::direction::near_root` meets its contract. Assumes nothing.
+-- `number::guess::near_root` meets its contract. Assumes nothing.
 use Prim.Native.Nat.{ℕ, _+_, _/_, _^_, _≤_}
 use borrow.Author.Needs.{needs}
 use native.Mathlib.Omega.{arith}
-use Rattle.plane.proofs.Settle.{quo-most}
-use Rattle.plane.proofs.direction.near_root.Statement.{statement}
-use Rattle.plane.proofs.direction.near_root.Tie as tie
+use Rattle.number.proofs.Roots.{quo-most}
+use Rattle.number.proofs.guess.near_root.Statement.{statement}
+use Rattle.number.proofs.guess.near_root.Tie as tie
 
 one : (c : tie.After-first) → c .before .args .t / c .first .result ≤ 2 ^ 35
 one c = quo-most _ _ (c .before .fits .t .fits) (omega (arith, c .first .ensures))

@@ -1,0 +1,182 @@
+//! Runs `plain` and the crate's own text beside each other.
+
+mod fixed;
+mod shrink;
+mod tally;
+mod text;
+mod trial;
+
+use against::list::{edges_text, line, path_text, Beside};
+use against::paths::{self, size, Path, SMALL_TEXT, STYLES};
+use against::runs::collapsed;
+use i_overlay::i_float::guess::{self, Between, Guesses, Halves, Inside, Normal, Root};
+use shrink::shrunk;
+use std::process::ExitCode;
+use std::time::Instant;
+use tally::{sum, Found, Tally};
+use text::Text;
+use trial::{Trial, Verdict};
+
+const USAGE: &str = "\
+compare [COUNT [SEED]]          compares COUNT random paths (100000)
+compare guesses [COUNT [SEED]]  the same with each guess turned the other way
+compare list                    prints list.txt";
+
+fn main() -> ExitCode {
+    let words: Vec<String> = std::env::args().skip(1).collect();
+    let words: Vec<&str> = words.iter().map(String::as_str).collect();
+    let done = match words[..] {
+        ["list"] => Some(list()),
+        ["guesses", ref rest @ ..] => numbers(rest).map(|(count, seed)| guesses(count, seed)),
+        ref rest => numbers(rest).map(|(count, seed)| compare(count, seed)),
+    };
+    done.unwrap_or_else(|| {
+        eprintln!("{USAGE}");
+        ExitCode::from(2)
+    })
+}
+
+fn numbers(words: &[&str]) -> Option<(u64, u64)> {
+    match words {
+        [] => Some((100_000, 1)),
+        [count] => Some((count.parse().ok()?, 1)),
+        [count, seed] => Some((count.parse().ok()?, seed.parse().ok()?)),
+        _ => None,
+    }
+}
+
+/// Compares, tells what was compared and set aside, and each disagreement.
+fn compare(count: u64, seed: u64) -> ExitCode {
+    let start = Instant::now();
+    let tally = Tally::of(seed, count, usize::MAX);
+    let (compared, aside) = (sum(&tally.compared), sum(&tally.set_aside));
+    println!(
+        "{} paths: all {} small ones ({SMALL_TEXT}), and {count} random ones, seed {seed}",
+        compared.paths + aside.paths,
+        paths::small_count(),
+    );
+    println!();
+    println!("style       compared  disagree   set aside  of these disagree");
+    let names = STYLES.iter().map(|style| style.name).chain(["small"]);
+    let total = [("all", (&compared, &aside))];
+    for (name, (compared, aside)) in names
+        .zip(tally.compared.iter().zip(&tally.set_aside))
+        .chain(total)
+    {
+        println!(
+            "{name:9} {:10} {:9}  {:10} {:18}",
+            compared.paths, compared.disagree, aside.paths, aside.disagree
+        );
+    }
+    println!();
+    println!(
+        "Set aside: paths with a Major arc whose rays have dot > 0 and |cross|·2^20 <= dot,\n\
+         its ends not equal. There i_float's angle decides whether the arc is a full circle."
+    );
+    println!("{:.1} s", start.elapsed().as_secs_f64());
+    let smallest = tally.found_aside.iter().take(1).cloned().collect();
+    tell("set aside, and the smallest of those that disagree", &smallest);
+    tell("disagree", &tally.found);
+    if tally.found.is_empty() {
+        println!("\nno disagreement outside of what is set aside");
+        ExitCode::SUCCESS
+    } else {
+        ExitCode::FAILURE
+    }
+}
+
+/// Paths with the edges of both sides.
+fn tell(title: &str, found: &Found) {
+    let mut text = Text::new();
+    for (_, path, number) in found {
+        let trial = Trial::new(&mut text, path, *number);
+        println!("\n{title}: {}", path_text(path));
+        println!("  plain: {}", edges_text(&collapsed(&trial.plain)));
+        println!("  text:  {}", edges_text(&collapsed(&trial.text)));
+        if trial.verdict() == Verdict::Kinds {
+            println!("  plain's kinds: {:?}", trial.plain);
+            println!("  text's kinds:  {:?}", trial.text);
+        }
+    }
+}
+
+/// Compares with each guess turned the other way, one at a time.
+fn guesses(count: u64, seed: u64) -> ExitCode {
+    let chosen = Guesses::CHOSEN;
+    let halves = |halves| Guesses { halves, ..chosen };
+    let root = |root| Guesses { root, ..chosen };
+    let normal = |normal| Guesses { normal, ..chosen };
+    let between = |between| Guesses { between, ..chosen };
+    let inside = |inside| Guesses { inside, ..chosen };
+    let table = [
+        ("as chosen", chosen),
+        ("halves towards zero", halves(Halves::Down)),
+        ("halves to even", halves(Halves::ToEven)),
+        ("halves to odd", halves(Halves::ToOdd)),
+        ("root to the nearest", root(Root::Nearest)),
+        ("direction to the nearest", normal(Normal::Nearest)),
+        ("direction 1/100 short", normal(Normal::Short)),
+        ("direction cut to 24 bits", normal(Normal::Bits24)),
+        ("direction cut to 16 bits", normal(Normal::Bits16)),
+        ("angle down", between(Between::Down)),
+        ("angle off by up to 300", between(Between::Off300)),
+        ("angle off by up to 30000", between(Between::Off30000)),
+        ("points inside arcs down", inside(Inside::Down)),
+    ];
+    for (name, guesses) in table {
+        guess::set(guesses);
+        let tally = Tally::of(seed, count, 3);
+        let (compared, aside) = (sum(&tally.compared), sum(&tally.set_aside));
+        println!(
+            "{name}: {} of {} compared disagree; {} of {} set aside",
+            compared.disagree, compared.paths, aside.disagree, aside.paths
+        );
+        for (title, set_aside, found) in [
+            ("smallest", false, &tally.found),
+            ("smallest set aside", true, &tally.found_aside),
+        ] {
+            if let Some(path) = smallest(found, set_aside) {
+                let trial = Trial::new(&mut Text::new(), &path, 0);
+                println!("  {title}: {}", path_text(&path));
+                println!("    plain: {}", edges_text(&collapsed(&trial.plain)));
+                println!("    text:  {}", edges_text(&collapsed(&trial.text)));
+            }
+        }
+    }
+    ExitCode::SUCCESS
+}
+
+/// The smallest path that can be had from those found.
+fn smallest(found: &Found, set_aside: bool) -> Option<Path> {
+    let mut text = Text::new();
+    let mut shows = |path: &[[i32; 3]]| {
+        let trial = Trial::new(&mut text, path, 0);
+        trial.set_aside == set_aside && trial.verdict() == Verdict::Edges
+    };
+    found
+        .iter()
+        .filter(|(_, path, _)| shows(path))
+        .map(|(_, path, _)| path.clone())
+        .collect::<Vec<Path>>()
+        .into_iter()
+        .map(|path| shrunk(&path, &mut shows))
+        .min_by_key(|path| (size(path), path.clone()))
+}
+
+/// Prints the list: the collapsed edges are the text's.
+fn list() -> ExitCode {
+    print!("{}", fixed::HEAD);
+    let mut text = Text::new();
+    for (title, paths) in fixed::paths() {
+        println!("# {title}");
+        for path in paths {
+            let trial = Trial::new(&mut text, &path, 0);
+            let beside = match trial.set_aside {
+                true => Beside::SetAside,
+                false => Beside::Edges(collapsed(&trial.text)),
+            };
+            println!("{}", line(&path, &beside));
+        }
+    }
+    ExitCode::SUCCESS
+}

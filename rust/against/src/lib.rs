@@ -1,0 +1,13 @@
+//! What comparing `plain` with the crate's own text needs and what can be had
+//! without the text.
+//!
+//! * [`labels`]: plain's edges with the crate's debug kinds, and the arcs
+//!   that document 01 sets aside
+//! * [`runs`]: runs of arc edges made into one
+//! * [`paths`]: all small paths, and random ones of many styles
+//! * [`list`]: a path and its edges as a line of text
+
+pub mod labels;
+pub mod list;
+pub mod paths;
+pub mod runs;

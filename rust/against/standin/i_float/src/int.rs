@@ -1,0 +1,5 @@
+pub mod angle;
+pub mod number;
+pub mod point;
+pub mod unit_vector;
+pub mod vector;
