@@ -1,0 +1,19 @@
+-- The calls as numbers: the promises of outline/specs/Answers.antt, through the definition that gives each answer its number.
+use mathlib.Core.Path.{_≡_}
+use mathlib.Core.List.{List}
+use Prim.Native.Nat.{ℕ}
+use lib.IntN.{ℤ}
+use lib.ListN.{length}
+use Rattle.outline.specs.Replies.{Reply as Answer, drawReply, drawOut}
+use Rattle.sehmelir.specs.declared.Reply.{Reply}
+
+-- document 01's reply and number, and a grade beside them
+pub record Replies (r : Reply) (told : Answer) (g : ℕ) : Type 0 where
+  pub reply : r .reply ≡ told .0
+  pub number : r .number ≡ told .1
+  pub grade : r .grade ≡ g
+
+-- draw: reply, number and every lent number afterwards
+pub record DrawReplies (path : List ℤ) (grade : ℕ) (out₀ : List ℤ) (r : Reply) (out₁ : List ℤ) : Type 0 where
+  pub replies : Replies r (drawReply path grade (length out₀)) 0
+  pub out : out₁ ≡ drawOut path grade out₀
