@@ -1,17 +1,20 @@
 -- How many edges an arc can have, from the count of its rotations. Assumes nothing.
+use mathlib.Core.Path.{_≡_, refl, _∙_}
 use mathlib.Core.Bool.{Bool, true, false}
 use mathlib.Core.List.{List, [], _++_}
-use Prim.Native.Nat.{ℕ, zero, suc, _+_, _≤_}
-use native.Mathlib.Nat.{le-trans}
+use Prim.Native.Nat.{ℕ, zero, suc, _+_, _*_, _≤_}
+use native.Mathlib.Nat.{le-trans, mul-comm}
 use native.Mathlib.Omega.{arith}
 use lib.IntN.{ℤ, pos}
-use lib.ListN.{length-append}
+use lib.ListN.{length, length-append}
 use lib.Signed.{leZ}
+use Rattle.runs.specs.Runs.{spread}
+use Rattle.runs.proofs.Laws.{spread-length}
 use Rattle.plane.specs.Vectors.{samePoint, fromTo}
 use Rattle.plane.specs.Directions.{directionOf, rotatedOf, scaledOf}
 use Rattle.plane.specs.declared.Point.{Point}
 use Rattle.plane.specs.declared.Vector.{Vector}
-use Rattle.arc.specs.Edges.{edgeOf}
+use Rattle.arc.specs.Edges.{edgeNumbers, edgeOf}
 use Rattle.arc.specs.Arcs.{stopsOf, turnsOf, sweptOf, circleOf, sweepOf, emptyOf, fullOf, ringOf, arcOf}
 use Rattle.arc.specs.Bounds.{Most}
 use Rattle.arc.specs.declared.Edge.{Edge}
@@ -58,3 +61,9 @@ arc-most t c r p q choice =
     let n = fromTo c q in
     let w = sweepOf m n choice in
     most-if (emptyOf w c p q) (most-none 3075) (most-if (fullOf w (directionOf m) (directionOf n)) (most-both (circle-most t c (ringOf m)) (edge-most p q)) (most-up (omega arith) (swept-most t c r p q)))
+
+-- ---- four numbers an edge
+
+pub edges-four : (es : List Edge) → length (spread edgeNumbers es) ≡ 4 * length es
+unfolding edgeNumbers
+edges-four es = spread-length edgeNumbers 4 (λ e. refl) es ∙ mul-comm (length es) 4

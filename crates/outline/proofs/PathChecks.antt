@@ -3,21 +3,18 @@ use mathlib.Core.Path.{_≡_, refl, sym, ap, _∙_}
 use mathlib.Core.Bool.{Bool, true, false, not, _||_}
 use mathlib.Core.List.{List, [], _∷_, _++_}
 use Prim.Native.Nat.{ℕ, zero, suc, _+_, _-_, _*_, _/_, _%_, _^_, _≤_, _<_}
-use native.Mathlib.Nat.{mul-comm, mul-le-mul, le-antisymm}
+use native.Mathlib.Nat.{le-antisymm}
 use native.Mathlib.Omega.{arith}
 use lib.Dec.{eqb, ltb}
-use lib.IntN.{ℤ, pos, natAbs}
+use lib.IntN.{ℤ}
 use lib.ListN.{length, drop}
-use lib.Pow.{pow-pos}
 use borrow.Author.Tests.{eq-eqb, ne-eqb, lt-ltb, le-ltb}
 use Rattle.runs.specs.Runs.{spread, Runs, Room, put}
-use Rattle.runs.proofs.Laws.{spread-length}
 use Rattle.runs.proofs.Written.{written-whole}
-use Rattle.plane.specs.Vectors.{squareOf}
-use Rattle.plane.specs.Directions.{UnitLong, stepOf, directionOf}
-use Rattle.plane.proofs.Directions.{direction-unit}
+use Rattle.plane.specs.Directions.{stepOf}
 use Rattle.plane.specs.declared.Vector.{Vector}
 use Rattle.arc.specs.Edges.{edgeNumbers}
+use Rattle.arc.proofs.Most.{edges-four}
 use Rattle.arc.specs.declared.Edge.{Edge}
 use Rattle.variable_stroke.specs.Limits.{firstOutside}
 use Rattle.variable_stroke.specs.Paths.{pathOf, bodiesAt, bodiesOf, joined, edgesOf}
@@ -95,10 +92,6 @@ module _ (path : List ℤ) (g : ℕ) where
               }
 
 -- ---- drawing a path that passed
-
-pub edges-four : (es : List Edge) → length (spread edgeNumbers es) ≡ 4 * length es
-unfolding edgeNumbers
-edges-four es = spread-length edgeNumbers 4 (λ e. refl) es ∙ mul-comm (length es) 4
 
 -- the walk's edges are those of the rules
 pub walk-edges : (g : ℕ) (vs : List Vertex) {t : Vector} → t ≡ stepOf g → joined (bodiesAt t vs) ≡ edgesOf g vs

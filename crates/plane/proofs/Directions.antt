@@ -2,10 +2,11 @@
 -- Assumes nothing.
 use mathlib.Core.Path.{_≡_, refl, sym, ap, subst, _∙_}
 use mathlib.Core.Bool.{Bool, true, false}
-use Prim.Native.Nat.{ℕ, zero, suc, _+_, _*_, _/_, _^_, _≤_, _<_}
+use Prim.Native.Nat.{ℕ, zero, suc, _+_, _-_, _*_, _/_, _^_, _≤_, _<_}
 use native.Mathlib.Nat.{le-trans, add-mul, mul-add, mul-comm, mul-assoc, mul-left-comm, mul-le-mul, mul-le-mul-right, le-of-mul-le-mul-right, le-div-iff-mul-le, div-lt-iff-lt-mul}
 use native.Mathlib.Omega.{arith}
 use lib.IntN.{ℤ, pos, natAbs, _+ℤ_, _-ℤ_, _*ℤ_}
+use lib.Pow.{pow-pos}
 use lib.Signed.{ltZ, quotZ}
 use Rattle.whole.specs.Sizes.{Size}
 use Rattle.whole.proofs.Squares.{square-le, rotated-sizes}
@@ -16,7 +17,7 @@ use Rattle.number.specs.MulDiv.{withSign, mulDivOf}
 use Rattle.number.proofs.Roots.{root-is, root-only}
 use Rattle.number.proofs.Nearest.{mul-div-by, nearest-most, sign-size}
 use Rattle.plane.specs.Vectors.{Short, squareOf}
-use Rattle.plane.specs.Directions.{partOf, componentOf, directionOf, rotatedOf, UnitLong}
+use Rattle.plane.specs.Directions.{partOf, componentOf, directionOf, stepOf, rotatedOf, UnitLong}
 use Rattle.plane.proofs.Products.{bits, back, short-fits}
 use mir.Syntax.{w64}
 use mir.Val.{SFits}
@@ -84,6 +85,16 @@ unit-short {v} h = record {
   x = record { size = square-le (natAbs (v .x)) (2 ^ 30) (omega (arith, h .length)) };
   y = record { size = square-le (natAbs (v .y)) (2 ^ 30) (omega (arith, h .length)) };
 }
+
+-- ---- the step of a grade
+
+square-some : (m n : ℕ) → 0 < n → 0 < m * m + n * n
+square-some m zero h = absurd (omega arith)
+square-some m (suc n) h = omega (arith, mul-le-mul {n₁ = 1} {m₁ = 1} {n₂ = suc n} {m₂ = suc n} (omega arith) (omega arith))
+
+pub step-unit : (k : ℕ) {t : Vector} → t ≡ stepOf k → UnitLong t
+unfolding stepOf squareOf
+step-unit k e = rw e (direction-unit (record { x = pos (4 ^ k - 1); y = pos (2 ^ (k + 1)) }) (square-some (4 ^ k - 1) (2 ^ (k + 1)) (pow-pos (k + 1))))
 
 -- ---- a turn
 

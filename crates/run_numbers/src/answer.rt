@@ -142,3 +142,18 @@ pub fn scaling(d: Number, radius: Number) -> Answer {
     let component = signed(d.minus, d.size);
     Answer::One(plane::rotation::scaled(component, radius.size))
 }
+
+// The shift that a squared length asks for.
+pub fn shift(square: Number) -> Answer {
+    if square.minus {
+        return Answer::Outside;
+    }
+    let sq = square.size;
+    if sq == 0 {
+        return Answer::Outside;
+    }
+    if 0x800_0000_0000_0000 < sq {
+        return Answer::Outside;
+    }
+    Answer::One(variable_stroke::math::shift(sq) as i64)
+}

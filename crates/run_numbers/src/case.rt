@@ -19,7 +19,7 @@ fn number_at(minus: &[bool; 16], sizes: &[u64; 16], i: usize) -> Number
 // How many numbers a case of this code has, its code among them; more than are read if there is no such code.
 fn count_of(code: u64) -> usize {
     match code {
-        1 | 5 => 2,
+        1 | 5 | 8 => 2,
         2 | 4 | 7 => 3,
         3 => 4,
         6 => 5,
@@ -36,7 +36,8 @@ fn answer_of(code: u64, a: Number, b: Number, c: Number, d: Number) -> Answer {
         4 => answer::direction(a, b),
         5 => answer::step(a),
         6 => answer::rotation(a, b, c, d),
-        _ => answer::scaling(a, b),
+        7 => answer::scaling(a, b),
+        _ => answer::shift(a),
     }
 }
 

@@ -1,4 +1,4 @@
-// Reads cases of roots, products, quotients, directions, steps, rotations and scalings, one a line, and prints the answer to each.
+// Reads cases of roots, products, quotients, directions, steps, rotations, scalings and shifts, one a line, and prints the answer to each.
 mod answer;
 mod case;
 

@@ -2,15 +2,11 @@
 use mathlib.Core.Path.{_≡_, refl, sym}
 use mathlib.Core.Bool.{Bool, true, false, _||_}
 use mathlib.Core.List.{List, [], _∷_, _++_}
-use Prim.Native.Nat.{ℕ, zero, suc, _+_, _-_, _*_, _^_, _<_}
-use native.Mathlib.Nat.{mul-le-mul}
+use Prim.Native.Nat.{ℕ, suc}
 use native.Mathlib.Omega.{arith}
-use lib.IntN.{pos}
 use lib.ListN.{length}
-use lib.Pow.{pow-pos}
-use Rattle.plane.specs.Vectors.{squareOf}
 use Rattle.plane.specs.Directions.{UnitLong, stepOf}
-use Rattle.plane.proofs.Directions.{direction-unit}
+use Rattle.plane.proofs.Directions.{step-unit}
 use Rattle.plane.specs.declared.Point.{Point}
 use Rattle.plane.specs.declared.Vector.{Vector}
 use Rattle.arc.specs.Bounds.{About, AllReach}
@@ -39,16 +35,6 @@ use Rattle.variable_stroke.specs.declared.Last.{Last}
 use Rattle.variable_stroke.specs.declared.Last.the-variants.{Nothing, Held}
 use Rattle.variable_stroke.specs.declared.Chain.{Chain}
 use Rattle.variable_stroke.specs.declared.Walk.{Walk}
-
--- ---- the step of a grade is no longer than 2^30
-
-square-some : (m n : ℕ) → 0 < n → 0 < m * m + n * n
-square-some m zero h = absurd (omega arith)
-square-some m (suc n) h = omega (arith, mul-le-mul {n₁ = 1} {m₁ = 1} {n₂ = suc n} {m₂ = suc n} (omega arith) (omega arith))
-
-pub step-unit : (k : ℕ) {t : Vector} → t ≡ stepOf k → UnitLong t
-unfolding stepOf squareOf
-step-unit k e = rw e (direction-unit (record { x = pos (4 ^ k - 1); y = pos (2 ^ (k + 1)) }) (square-some (4 ^ k - 1) (2 ^ (k + 1)) (pow-pos (k + 1))))
 
 -- ---- from caps to steps
 

@@ -94,6 +94,14 @@ drawn-whole a b e = go (brokenOf a b) refl
     go true f = let g = kind-broken a b f in let z : _≡_ {A = ℕ} 0 1 = cc in absurd (omega arith)
     go false f = refl
 
+-- nor is a thin one
+pub thin-whole : (a b : Vertex) → kindOf a b ≡ Thin → brokenOf a b ≡ false
+thin-whole a b e = go (brokenOf a b) refl
+  where
+    go : (x : Bool) → brokenOf a b ≡ x → x ≡ false
+    go true f = let g = kind-broken a b f in let z : _≡_ {A = ℕ} 0 1 = cc in absurd (omega arith)
+    go false f = refl
+
 module _ (a b : Vertex) {z : ℤ} (e : brokenOf a b ≡ false) (f : z ≡ largerOf a b) (h : SFits w64 z) where
   pub kind-drawn : leZ (pos 2) (bits z) ≡ true → Drawn ≡ kindOf a b
   unfolding kindOf

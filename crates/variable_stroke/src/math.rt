@@ -69,7 +69,7 @@ pub fn kind(a: Vertex, b: Vertex) -> Kind
 }
 
 // Half the leading zeros of sq but one: how many binary places its root is taken to.
-fn shift(sq: u64) -> u32
+pub fn shift(sq: u64) -> u32
     requires { ⌜ (0 < sq) × (sq ≤ 2 ^ 59) ⌝ }
     ensures { λ r. ⌜ r ≡ shiftOf sq ⌝ }
 {

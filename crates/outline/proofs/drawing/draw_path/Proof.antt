@@ -2,7 +2,7 @@
 use mathlib.Core.Path.{sym}
 use borrow.Author.Needs.{needs}
 use native.Mathlib.Omega.{arith}
-use Rattle.variable_stroke.proofs.Reach.{step-unit}
+use Rattle.plane.proofs.Directions.{step-unit}
 use Rattle.outline.proofs.PathChecks.{walk-room, draws-short, draws-done}
 use Rattle.outline.proofs.drawing.draw_path.Statement.{statement}
 use Rattle.outline.proofs.drawing.draw_path.Tie as tie

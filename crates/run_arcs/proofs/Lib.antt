@@ -1,0 +1,2 @@
+-- The program's own laws.
+pub mod Guards
