@@ -31,12 +31,12 @@ first-none (row ∷ rows) last e h = go (row .0) refl h (first-none rows last (e
     go true f k r = absurd (true≢false (sym (eq-eqb (row .1 .0) 0 k) ∙ e .0))
     go false f k r = (f, r k)
 
-either : (a b : Bool) → (a || b) ≡ false → (a ≡ false) × (b ≡ false)
+pub either : (a b : Bool) → (a || b) ≡ false → (a ≡ false) × (b ≡ false)
 either true b e = absurd (true≢false e)
 either false b e = (refl, e)
 
 -- ---- the path
-entries-count : (n : ℕ) (ws : List ℕ) → length (entriesIn n ws) ≤ n
+pub entries-count : (n : ℕ) (ws : List ℕ) → length (entriesIn n ws) ≤ n
 unfolding entriesIn
 entries-count zero ws = omega arith
 entries-count (suc n) [] = omega arith
@@ -54,7 +54,7 @@ outside-most (v ∷ vs) = go (allowedOf v) (outside-most vs)
     go true h = omega arith
     go false h = omega arith
 
-outside-set : (vs : List Vertex) (k : ℕ) (v : Vertex) → allowedOf v ≡ true → firstOutside vs ≡ length vs → firstOutside (set vs k v) ≡ length vs
+pub outside-set : (vs : List Vertex) (k : ℕ) (v : Vertex) → allowedOf v ≡ true → firstOutside vs ≡ length vs → firstOutside (set vs k v) ≡ length vs
 unfolding firstOutside
 outside-set [] k v a h = refl
 outside-set (u ∷ vs) zero v a h = rw (a, firstOutside) (ap suc (inside-first u vs h .1))

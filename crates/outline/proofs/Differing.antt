@@ -31,7 +31,7 @@ first-inside (a ∷ l) (b ∷ m) e f = go (eqb a b) f (first-inside l m (omega a
     go false q r = omega arith
 
 -- what both begin with is passed
-first-append : (p l m : List ℕ) → firstDiffering (p ++ l) (p ++ m) ≡ length p + firstDiffering l m
+pub first-append : (p l m : List ℕ) → firstDiffering (p ++ l) (p ++ m) ≡ length p + firstDiffering l m
 unfolding firstDiffering
 first-append [] l m = omega arith
 first-append (a ∷ p) l m = rw (eq-eqb a a refl, firstDiffering) (omega (arith, first-append p l m))
@@ -77,7 +77,7 @@ words-again (suc k) (a ∷ b ∷ c ∷ d ∷ s) h l =
     let e : 4 * suc k ≡ suc (suc (suc (suc (4 * k)))) = omega arith in
     rw (e, four-again a b c d (h .0) (h .1 .0) (h .1 .1 .0) (h .1 .1 .1 .0)) (ap (λ (r : List ℕ). a ∷ b ∷ c ∷ d ∷ r) (words-again k s (h .1 .1 .1 .1) (omega arith)))
 
-words-count : (s : List ℕ) (k : ℕ) → 4 * k ≤ length s → k ≤ length (wordsIn s)
+pub words-count : (s : List ℕ) (k : ℕ) → 4 * k ≤ length s → k ≤ length (wordsIn s)
 unfolding wordsIn
 words-count [] k h = omega arith
 words-count (a ∷ []) k h = omega arith
@@ -87,7 +87,7 @@ words-count (a ∷ b ∷ c ∷ d ∷ s) zero h = omega arith
 words-count (a ∷ b ∷ c ∷ d ∷ s) (suc k) h = omega (arith, words-count s k (omega arith))
 
 -- as many entries as the words allow
-entries-full : (n : ℕ) (ws : List ℕ) → 4 * n ≤ length ws → length (entriesIn n ws) ≡ n
+pub entries-full : (n : ℕ) (ws : List ℕ) → 4 * n ≤ length ws → length (entriesIn n ws) ≡ n
 unfolding entriesIn
 entries-full zero ws h = refl
 entries-full (suc n) [] h = absurd (omega arith)

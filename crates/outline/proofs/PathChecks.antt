@@ -109,7 +109,7 @@ module _ (path : List ℤ) {g n w : ℕ} {t : Vector} {l l₁ : List ℤ} (h : F
   numbers : w ≡ 4 * length (edgesOf g (pathOf path))
   numbers = omega (arith, p .pos, edges-four (edgesOf g (pathOf path)), ap (λ (es : List Edge). length (spread edgeNumbers es)) (walk-edges g (pathOf path) e))
 
-  count-of : w / 4 ≡ length (edgesOf g (pathOf path))
+  pub count-of : w / 4 ≡ length (edgesOf g (pathOf path))
   count-of = omega (arith, numbers)
 
   pub draws-short : (out : List ℤ) → length out < w → Draws path g out (drawn.Refused (NoRoom (w / 4))) out

@@ -144,14 +144,14 @@ table-fits [] (b ∷ bs) h = (omega (arith, length-append b (joined bs)), tt)
 table-fits (v ∷ vs) (b ∷ bs) h =
     (word-fits (v .x), (word-fits (v .y), (word-fits (v .radius), (omega (arith, length-append b (joined bs)), table-fits vs bs (omega (arith, length-append b (joined bs)))))))
 
-table-length : (vs : List Vertex) (bs : List (List Edge)) → length bs ≡ suc (length vs) → length (tableOf vs bs) ≡ 4 * length vs + 1
+pub table-length : (vs : List Vertex) (bs : List (List Edge)) → length bs ≡ suc (length vs) → length (tableOf vs bs) ≡ 4 * length vs + 1
 unfolding tableOf entryOf
 table-length [] [] h = absurd (omega arith)
 table-length [] (b ∷ bs) h = refl
 table-length (v ∷ vs) [] h = absurd (omega arith)
 table-length (v ∷ vs) (b ∷ bs) h = omega (arith, table-length vs bs (omega arith))
 
-numbers-length : (es : List Edge) → length (bodyWords es) ≡ 4 * length es
+pub numbers-length : (es : List Edge) → length (bodyWords es) ≡ 4 * length es
 unfolding bodyWords wordsOf spread edgeNumbers
 numbers-length [] = refl
 numbers-length (e ∷ es) = omega (arith, numbers-length es)
@@ -207,7 +207,7 @@ one-outline g h vs us p q e =
     (sym (grade-back g vs [] p) ∙ ap (λ s. gradeIn (s ++ [])) e ∙ grade-back h us [] q, sym (vertices-back g vs [] p) ∙ ap (λ s. pathIn (s ++ [])) e ∙ vertices-back h us [] q)
 
 -- ---- and what reading it replies: every row before fails
-numbers-count : (vs : List Vertex) → length (pathNumbers vs) ≡ 3 * length vs
+pub numbers-count : (vs : List Vertex) → length (pathNumbers vs) ≡ 3 * length vs
 unfolding pathNumbers vertexNumbers spread
 numbers-count [] = refl
 numbers-count (v ∷ vs) = omega (arith, numbers-count vs)

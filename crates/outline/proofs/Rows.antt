@@ -27,7 +27,7 @@ unfolding firstRow roomRow
 room-enough needed room number last h = rw (le-ltb room needed h, firstRow)
 
 -- a refusal's number is not 0, so lent memory stays; after 0 the result stands first
-refusal-some : (r : Refusal) → eqb (refusalOf r .0) 0 ≡ false
+pub refusal-some : (r : Refusal) → eqb (refusalOf r .0) 0 ≡ false
 unfolding refusalOf
 refusal-some (NotTriples n) = refl
 refusal-some (TooMany n) = refl

@@ -6,3 +6,4 @@ pub mod Answers
 pub mod Examples
 pub mod Theorems
 pub mod Checks
+pub mod Fills

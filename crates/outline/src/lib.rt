@@ -1,6 +1,10 @@
 // The kept outline, and what the four calls answer: draw, keep, read, replace.
 pub mod drawing;
+pub mod filling;
+pub mod keeping;
 pub mod path_rows;
+pub mod rewriting;
+pub mod words;
 
 // Why a call is refused, each with the number that goes beside its reply.
 pub enum Refusal {

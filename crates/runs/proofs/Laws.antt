@@ -19,7 +19,7 @@ spread-length g k h [] = sym (zero-mul k)
 spread-length g k h (e ∷ es) =
     length-append (g e) (spread g es) ∙ ap (λ n. n + length (spread g es)) (h e) ∙ ap (λ n. k + n) (spread-length g k h es) ∙ add-comm k (length es * k) ∙ sym (suc-mul (length es) k)
 
-over-append : {S A : Type 0} (f : S → ℕ → A → S) (s : S) (i : ℕ) (xs ys : List A) → over f (over f s i xs) (i + length xs) ys ≡ over f s i (xs ++ ys)
+pub over-append : {S A : Type 0} (f : S → ℕ → A → S) (s : S) (i : ℕ) (xs ys : List A) → over f (over f s i xs) (i + length xs) ys ≡ over f s i (xs ++ ys)
 unfolding over
 over-append f s i [] ys = ap (λ k. over f s k ys) (add-zero i)
 over-append f s i (x ∷ xs) ys =

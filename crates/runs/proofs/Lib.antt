@@ -2,3 +2,4 @@
 pub mod Laws
 pub mod Onward
 pub mod Written
+pub mod Agreed

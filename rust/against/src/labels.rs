@@ -79,7 +79,11 @@ pub fn labelled(path: &[[i32; 3]], grade: u32) -> Labelled {
     let labelled = labeller.labelled;
     let drawing = walk(&path, grade);
     assert!(
-        labelled.edges.iter().map(|(edge, _)| edge).eq(&drawing.edges),
+        labelled
+            .edges
+            .iter()
+            .map(|(edge, _)| edge)
+            .eq(&drawing.edges),
         "the labelled walk of {path:?} at grade {grade} is not plain's"
     );
     labelled

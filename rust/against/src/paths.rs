@@ -9,10 +9,14 @@ use plain::random::Random;
 /// Vertices of x, y and radius.
 pub type Path = Vec<[i32; 3]>;
 
-/// Smaller paths first: by vertices, then by the sum of all sizes.
-pub fn size(path: &[[i32; 3]]) -> (usize, u64) {
-    let sizes = path.iter().flatten().map(|n| n.unsigned_abs() as u64);
-    (path.len(), sizes.sum())
+/// What makes a path smaller than another: the sum of all sizes, then the
+/// vertices, then the negative numbers.
+pub type Size = (u64, usize, usize);
+
+pub fn size(path: &[[i32; 3]]) -> Size {
+    let numbers = || path.iter().flatten();
+    let sum = numbers().map(|n| n.unsigned_abs() as u64).sum();
+    (sum, path.len(), numbers().filter(|&&n| n < 0).count())
 }
 
 /// A range of small paths: the first vertex at the origin, the others in a
@@ -372,7 +376,10 @@ mod tests {
         paths.sort();
         paths.dedup();
         assert_eq!(paths.len() as u64, small_count());
-        assert_eq!(small_count(), 1 + 21 + 9 * 25 * 25 * 9 + 5 * (81 * 5) * (81 * 5));
+        assert_eq!(
+            small_count(),
+            1 + 21 + 9 * 25 * 25 * 9 + 5 * (81 * 5) * (81 * 5)
+        );
     }
 
     #[test]

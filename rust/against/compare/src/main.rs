@@ -6,7 +6,7 @@ mod tally;
 mod text;
 mod trial;
 
-use against::list::{edges_text, line, path_text, Beside};
+use against::list::{edges_text, line, parse, path_text, Beside};
 use against::paths::{self, size, Path, SMALL_TEXT, STYLES};
 use against::runs::collapsed;
 use i_overlay::i_float::guess::{self, Between, Guesses, Halves, Inside, Normal, Root};
@@ -15,18 +15,20 @@ use std::process::ExitCode;
 use std::time::Instant;
 use tally::{sum, Found, Tally};
 use text::Text;
-use trial::{Trial, Verdict};
+use trial::{Setting, Trial, Verdict};
 
 const USAGE: &str = "\
 compare [COUNT [SEED]]          compares COUNT random paths (100000)
 compare guesses [COUNT [SEED]]  the same with each guess turned the other way
-compare list                    prints list.txt";
+compare list                    prints list.txt
+compare show PATH               all edges of a path such as \"(0,0,5) (20,0,5)\"";
 
 fn main() -> ExitCode {
     let words: Vec<String> = std::env::args().skip(1).collect();
     let words: Vec<&str> = words.iter().map(String::as_str).collect();
     let done = match words[..] {
         ["list"] => Some(list()),
+        ["show", path] => parse(&format!("{path}:")).map(|(path, _)| show(&path)),
         ["guesses", ref rest @ ..] => numbers(rest).map(|(count, seed)| guesses(count, seed)),
         ref rest => numbers(rest).map(|(count, seed)| compare(count, seed)),
     };
@@ -75,7 +77,10 @@ fn compare(count: u64, seed: u64) -> ExitCode {
     );
     println!("{:.1} s", start.elapsed().as_secs_f64());
     let smallest = tally.found_aside.iter().take(1).cloned().collect();
-    tell("set aside, and the smallest of those that disagree", &smallest);
+    tell(
+        "set aside, and the smallest of those that disagree",
+        &smallest,
+    );
     tell("disagree", &tally.found);
     if tally.found.is_empty() {
         println!("\nno disagreement outside of what is set aside");
@@ -89,7 +94,7 @@ fn compare(count: u64, seed: u64) -> ExitCode {
 fn tell(title: &str, found: &Found) {
     let mut text = Text::new();
     for (_, path, number) in found {
-        let trial = Trial::new(&mut text, path, *number);
+        let trial = Trial::new(&mut text, path, Setting::of(*number));
         println!("\n{title}: {}", path_text(path));
         println!("  plain: {}", edges_text(&collapsed(&trial.plain)));
         println!("  text:  {}", edges_text(&collapsed(&trial.text)));
@@ -119,8 +124,8 @@ fn guesses(count: u64, seed: u64) -> ExitCode {
         ("direction cut to 24 bits", normal(Normal::Bits24)),
         ("direction cut to 16 bits", normal(Normal::Bits16)),
         ("angle down", between(Between::Down)),
-        ("angle off by up to 300", between(Between::Off300)),
-        ("angle off by up to 30000", between(Between::Off30000)),
+        ("angle 0 within 600 units", between(Between::Zero600)),
+        ("angle 0 within 30000 units", between(Between::Zero30000)),
         ("points inside arcs down", inside(Inside::Down)),
     ];
     for (name, guesses) in table {
@@ -131,16 +136,13 @@ fn guesses(count: u64, seed: u64) -> ExitCode {
             "{name}: {} of {} compared disagree; {} of {} set aside",
             compared.disagree, compared.paths, aside.disagree, aside.paths
         );
-        for (title, set_aside, found) in [
-            ("smallest", false, &tally.found),
-            ("smallest set aside", true, &tally.found_aside),
-        ] {
-            if let Some(path) = smallest(found, set_aside) {
-                let trial = Trial::new(&mut Text::new(), &path, 0);
-                println!("  {title}: {}", path_text(&path));
-                println!("    plain: {}", edges_text(&collapsed(&trial.plain)));
-                println!("    text:  {}", edges_text(&collapsed(&trial.text)));
-            }
+        let path = smallest(&tally.found, false).map(|path| ("smallest", path));
+        let aside = || smallest(&tally.found_aside, true).map(|path| ("set aside", path));
+        if let Some((title, path)) = path.or_else(aside) {
+            let trial = Trial::new(&mut Text::new(), &path, Setting::COARSE);
+            println!("  {title}: {}", path_text(&path));
+            println!("    plain: {}", edges_text(&collapsed(&trial.plain)));
+            println!("    text:  {}", edges_text(&collapsed(&trial.text)));
         }
     }
     ExitCode::SUCCESS
@@ -150,7 +152,7 @@ fn guesses(count: u64, seed: u64) -> ExitCode {
 fn smallest(found: &Found, set_aside: bool) -> Option<Path> {
     let mut text = Text::new();
     let mut shows = |path: &[[i32; 3]]| {
-        let trial = Trial::new(&mut text, path, 0);
+        let trial = Trial::new(&mut text, path, Setting::COARSE);
         trial.set_aside == set_aside && trial.verdict() == Verdict::Edges
     };
     found
@@ -170,12 +172,29 @@ fn list() -> ExitCode {
     for (title, paths) in fixed::paths() {
         println!("# {title}");
         for path in paths {
-            let trial = Trial::new(&mut text, &path, 0);
+            let trial = Trial::new(&mut text, &path, Setting::COARSE);
             let beside = match trial.set_aside {
                 true => Beside::SetAside,
                 false => Beside::Edges(collapsed(&trial.text)),
             };
             println!("{}", line(&path, &beside));
+        }
+    }
+    ExitCode::SUCCESS
+}
+
+/// Prints all edges of a path: plain's at grade 1, the text's at its default
+/// step angle.
+fn show(path: &[[i32; 3]]) -> ExitCode {
+    let setting = Setting {
+        step: Text::DEFAULT,
+        ..Setting::COARSE
+    };
+    let trial = Trial::new(&mut Text::new(), path, setting);
+    for (name, edges) in [("plain", &trial.plain), ("text", &trial.text)] {
+        println!("{name}: {} edges", edges.len());
+        for (edge, kind) in edges {
+            println!("  {} {kind:?}", edges_text(&[(*edge, kind.is_arc())]));
         }
     }
     ExitCode::SUCCESS

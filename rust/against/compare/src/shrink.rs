@@ -2,20 +2,23 @@
 
 use against::paths::{size, Path};
 
+/// Most changes made to one path.
+const MOST: usize = 1000;
+
 /// A path no larger than `path` of which `shows` still holds: vertices are
 /// left out and numbers brought nearer to 0 as long as that works.
 pub fn shrunk(path: &[[i32; 3]], mut shows: impl FnMut(&[[i32; 3]]) -> bool) -> Path {
     let mut path = path.to_vec();
-    loop {
-        let smaller = smaller(&path);
-        let found = smaller
+    for _ in 0..MOST {
+        let found = smaller(&path)
             .into_iter()
             .find(|other| size(other) < size(&path) && shows(other));
         match found {
             Some(found) => path = found,
-            None => return path,
+            None => break,
         }
     }
+    path
 }
 
 /// What to try in the place of a path.
@@ -26,7 +29,8 @@ fn smaller(path: &[[i32; 3]]) -> Vec<Path> {
         less.remove(place);
         all.push(less);
         let [x, y, _] = path[place];
-        let moved = |&[a, b, radius]: &[i32; 3]| Some([a.checked_sub(x)?, b.checked_sub(y)?, radius]);
+        let moved =
+            |&[a, b, radius]: &[i32; 3]| Some([a.checked_sub(x)?, b.checked_sub(y)?, radius]);
         all.extend(path.iter().map(moved).collect::<Option<Path>>());
     }
     all.push(path.iter().map(|vertex| vertex.map(|n| n / 2)).collect());
@@ -40,14 +44,9 @@ fn smaller(path: &[[i32; 3]]) -> Vec<Path> {
             }
         }
     }
-    for number in 0..3 {
-        let step = |n: i32| n - n.signum();
-        let all_less = |vertex: &[i32; 3]| {
-            let mut vertex = *vertex;
-            vertex[number] = step(vertex[number]);
-            vertex
-        };
-        all.push(path.iter().map(all_less).collect());
+    for part in [2, 4, 16, 256, 65536] {
+        let less = |&[x, y, radius]: &[i32; 3]| [x, y, radius - radius / part];
+        all.push(path.iter().map(less).collect());
     }
     all
 }

@@ -1,8 +1,8 @@
 //! Many paths on both sides.
 
 use crate::text::Text;
-use crate::trial::{Trial, Verdict};
-use against::paths::{self, size, Path, STYLES};
+use crate::trial::{Setting, Trial, Verdict};
+use against::paths::{self, size, Path, Size, STYLES};
 use std::collections::BTreeSet;
 use std::sync::atomic::{AtomicU64, Ordering::Relaxed};
 use std::thread;
@@ -15,8 +15,8 @@ pub struct Count {
 }
 
 /// Paths that disagree, smallest first, each with the number that picked its
-/// grade, step angle and width.
-pub type Found = BTreeSet<((usize, u64), Path, u64)>;
+/// setting.
+pub type Found = BTreeSet<(Size, Path, u64)>;
 
 /// What a run found. The last place of `compared` and `set_aside` is for the
 /// small paths, the others for the styles.
@@ -69,7 +69,7 @@ impl Tally {
             None => (SMALL, paths::small(number)),
             Some(number) => paths::random(seed, number),
         };
-        let trial = Trial::new(text, &path, number);
+        let trial = Trial::new(text, &path, Setting::of(number));
         let (counts, found) = match trial.set_aside {
             false => (&mut self.compared, &mut self.found),
             true => (&mut self.set_aside, &mut self.found_aside),

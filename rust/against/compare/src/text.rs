@@ -11,13 +11,16 @@ use plain::arcs::Edge;
 /// The builder, at some step angles. Points inside arcs are not compared, so
 /// any of them must do.
 pub struct Text {
-    strokes: [Stroke; 4],
+    strokes: [Stroke; Text::STEPS],
 }
 
-/// How many step angles there are.
-pub const STEPS: usize = 4;
-
 impl Text {
+    /// How many step angles there are.
+    pub const STEPS: usize = 4;
+
+    /// Which of them is the crate's own default.
+    pub const DEFAULT: usize = 1;
+
     pub fn new() -> Text {
         let default = IntVariableStrokeStyle::default();
         let steps = [

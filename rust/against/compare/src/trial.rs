@@ -1,6 +1,6 @@
 //! One path on both sides.
 
-use crate::text::{Text, STEPS};
+use crate::text::Text;
 use against::labels::{labelled, Kind};
 use against::runs::{collapsed, collapsed_by_kind};
 use plain::arcs::Edge;
@@ -15,6 +15,42 @@ pub enum Verdict {
     Kinds,
 }
 
+/// What collapsed edges must not depend on.
+#[derive(Clone, Copy, Debug, PartialEq, Eq)]
+pub struct Setting {
+    /// Plain's grade.
+    pub grade: u32,
+    /// Which of the text's step angles.
+    pub step: usize,
+    /// Whether the text's widths are odd.
+    pub odd: bool,
+}
+
+impl Setting {
+    pub const COARSE: Setting = Setting {
+        grade: 1,
+        step: 0,
+        odd: false,
+    };
+
+    /// The setting that a number picks: mostly a coarse one, which is quick.
+    pub fn of(number: u64) -> Setting {
+        let number = number / 16;
+        Setting {
+            grade: match number % 64 {
+                few @ 0..8 => 8 - few as u32,
+                8..14 => 2,
+                _ => 1,
+            },
+            step: match number % 61 {
+                few @ 0..12 => few as usize % Text::STEPS,
+                _ => 0,
+            },
+            odd: number % 2 == 1,
+        }
+    }
+}
+
 /// A path on both sides.
 pub struct Trial {
     pub plain: Vec<(Edge, Kind)>,
@@ -23,23 +59,12 @@ pub struct Trial {
 }
 
 impl Trial {
-    /// The path at a grade, a step angle and a width that `number` picks:
-    /// mostly coarse ones, which are quick.
-    pub fn new(text: &mut Text, path: &[[i32; 3]], number: u64) -> Trial {
-        let grade = match number / 16 % 64 {
-            few @ 0..8 => 8 - few as u32,
-            8..14 => 2,
-            _ => 1,
-        };
-        let step = match number / 16 % 61 {
-            few @ 0..12 => few as usize % STEPS,
-            _ => 0,
-        };
-        let labelled = labelled(path, grade);
+    pub fn new(text: &mut Text, path: &[[i32; 3]], setting: Setting) -> Trial {
+        let labelled = labelled(path, setting.grade);
         Trial {
             set_aside: labelled.set_aside(),
             plain: labelled.edges,
-            text: text.edges(path, step, number / 16 % 2 == 1),
+            text: text.edges(path, setting.step, setting.odd),
         }
     }
 

@@ -43,10 +43,11 @@ pub enum Between {
     Nearest,
     /// The unit below.
     Down,
-    /// Up to 300 units off.
-    Off300,
-    /// Up to 30,000 units off.
-    Off30000,
+    /// The nearest unit, but 0 within 600 units of it: as far as document 01
+    /// sets arcs aside, an angle of 2^-20 being 652 units.
+    Zero600,
+    /// The nearest unit, but 0 within 30,000 units of it.
+    Zero30000,
 }
 
 /// The rounding of the points inside arcs.
@@ -111,7 +112,7 @@ pub(crate) fn normal() -> Normal {
 
 pub(crate) fn between() -> Between {
     use Between::*;
-    [Nearest, Down, Off300, Off30000][BETWEEN.load(Relaxed) as usize]
+    [Nearest, Down, Zero600, Zero30000][BETWEEN.load(Relaxed) as usize]
 }
 
 pub(crate) fn inside() -> Inside {

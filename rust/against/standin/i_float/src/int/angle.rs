@@ -48,13 +48,20 @@ impl Angle {
         );
         let (cross, dot) = (ax * by - ay * bx, ax * bx + ay * by);
         let units = (cross as f64).atan2(dot as f64) / TAU * TURN;
-        let units = match between() {
-            Between::Nearest => units.round() as i64,
-            Between::Down => units.floor() as i64,
-            Between::Off300 => units.round() as i64 + scattered(cross, dot, 300),
-            Between::Off30000 => units.round() as i64 + scattered(cross, dot, 30_000),
+        let nearest_past = |zero: f64| {
+            if units.abs() <= zero {
+                0.0
+            } else {
+                units.round()
+            }
         };
-        Self(units as u32)
+        let units = match between() {
+            Between::Nearest => units.round(),
+            Between::Down => units.floor(),
+            Between::Zero600 => nearest_past(600.0),
+            Between::Zero30000 => nearest_past(30_000.0),
+        };
+        Self(units as i64 as u32)
     }
 
     /// FORCED: the cosine in units of 2^-30 (arc/integer.rs adds "eight Q30
@@ -73,12 +80,6 @@ impl Angle {
     fn radians(self) -> f64 {
         self.0 as i32 as f64 / TURN * TAU
     }
-}
-
-/// OWN: a number from -most to most that the two numbers determine.
-fn scattered(a: i64, b: i64, most: i64) -> i64 {
-    let mixed = (a ^ b.rotate_left(32)).wrapping_mul(0x9E37_79B9_7F4A_7C15_u64 as i64);
-    (mixed >> 20).rem_euclid(2 * most + 1) - most
 }
 
 /// A rotation. FORCED: name; what it is made from and asked for.

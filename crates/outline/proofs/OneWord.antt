@@ -1,0 +1,90 @@
+-- One word: four bytes in a row, read where they stand, and the number that it is the word of. Assumes nothing.
+use mathlib.Core.Path.{_≡_, refl, sym, ap, _∙_}
+use mathlib.Core.Bool.{true, false}
+use mathlib.Core.List.{List, [], _∷_}
+use Prim.Native.Nat.{ℕ, zero, suc, _+_, _-_, _*_, _/_, _%_, _^_, _≤_, _<_}
+use native.Mathlib.Nat.{zero-add}
+use native.Mathlib.Numerals.{add-one, add-two, add-three, sub-one}
+use native.Mathlib.Omega.{arith}
+use borrow.Author.Tests.{lt-ltb, le-ltb, ltb-true}
+use lib.Dec.{ltb}
+use lib.IntN.{ℤ, pos, negsuc, natAbs, _-ℤ_}
+use lib.Signed.{ltZ}
+use lib.ListN.{length, getD}
+use mir.Syntax.{w32}
+use mir.Val.{SFits, toZ, ofZ}
+use mir.Facts.{toZ-ofZ, toZ-pos, sfits-toZ}
+use Rattle.runs.specs.Runs.{spread, over, Runs, Room}
+use Rattle.outline.specs.Words.{wordOf, numberOf, fourBytes}
+use Rattle.outline.specs.Stores.{wordsIn, wordAt}
+
+-- ---- four bytes
+
+pub room-word : {at : ℕ} (w : ℕ) → Room fourBytes at (w ∷ []) → at + 4 < 2 ^ 64
+unfolding spread fourBytes
+room-word w h = h .fits
+
+pub word-room : {at : ℕ} (w : ℕ) → at + 4 < 2 ^ 64 → Room fourBytes at (w ∷ [])
+unfolding spread fourBytes
+word-room w h = record { fits = h }
+
+-- taken one by one, into whatever state
+pub word-run : {S : Type 0} {f : S → ℕ → ℕ → S} {s₀ s₁ s₂ s₃ s₄ : S} {at : ℕ} (w : ℕ)
+    → s₁ ≡ f s₀ at (w % 256) → s₂ ≡ f s₁ (at + 1) (w / 256 % 256) → s₃ ≡ f s₂ (at + 2) (w / 65536 % 256) → s₄ ≡ f s₃ (at + 3) (w / 16777216 % 256)
+    → Runs f fourBytes s₀ at (w ∷ []) s₄ (at + 4)
+unfolding spread over fourBytes
+word-run {at = at} w p q r s = record { out = cc (add-one at, add-two at, add-three at); pos = refl }
+
+-- read where they stand
+pub word-here : (s : List ℕ) (i : ℕ) → 4 * i + 4 ≤ length s
+    → getD s (4 * i) 0 + 256 * getD s (4 * i + 1) 0 + 65536 * getD s (4 * i + 2) 0 + 16777216 * getD s (4 * i + 3) 0 ≡ wordAt s i
+unfolding wordAt wordsIn
+word-here [] i h = absurd (omega arith)
+word-here (a ∷ []) i h = absurd (omega arith)
+word-here (a ∷ b ∷ []) i h = absurd (omega arith)
+word-here (a ∷ b ∷ c ∷ []) i h = absurd (omega arith)
+word-here (a ∷ b ∷ c ∷ d ∷ s) zero h = refl
+word-here (a ∷ b ∷ c ∷ d ∷ s) (suc i) h =
+    let e₀ : 4 * suc i ≡ suc (suc (suc (suc (4 * i)))) = omega arith in
+    let e₁ : 4 * suc i + 1 ≡ suc (suc (suc (suc (4 * i + 1)))) = omega arith in
+    let e₂ : 4 * suc i + 2 ≡ suc (suc (suc (suc (4 * i + 2)))) = omega arith in
+    let e₃ : 4 * suc i + 3 ≡ suc (suc (suc (suc (4 * i + 3)))) = omega arith in
+    rw (e₁, e₂, e₃, e₀) (word-here s i (omega arith))
+
+-- ---- the word of a number, from its size
+
+pub word-below : (z : ℤ) {m : ℕ} → m ≡ natAbs z → natAbs z ≤ 2 ^ 31 → ltZ z (pos 0) ≡ true → (0 < m) × (2 ^ 32 - m ≡ wordOf z)
+unfolding wordOf
+word-below (pos n) e h t = absurd (omega (arith, ltb-true n 0 t))
+word-below (negsuc n) e h t = (omega arith, omega arith)
+
+pub word-above : (z : ℤ) {m : ℕ} → m ≡ natAbs z → natAbs z ≤ 2 ^ 31 → ltZ z (pos 0) ≡ false → m ≡ wordOf z
+unfolding wordOf
+word-above (pos n) e h t = omega arith
+word-above (negsuc n) e h t = absurd (let z : _≡_ {A = ℕ} 0 1 = cc in omega arith)
+
+-- ---- the number of a word
+
+pub number-low : (w : ℕ) → w < 2147483648 → toZ w32 w ≡ numberOf w
+unfolding numberOf
+number-low w h = rw (lt-ltb w (2 ^ 31) h, numberOf) refl
+
+-- -1 less a number
+less-pos : (k : ℕ) → negsuc 0 -ℤ pos k ≡ negsuc k
+less-pos zero = refl
+less-pos (suc k) = rw (zero-add k)
+
+high-is : (w : ℕ) → 2147483648 ≤ w → w < 2 ^ 32 → negsuc 0 -ℤ toZ w32 (4294967295 - w) ≡ numberOf w
+unfolding numberOf
+high-is w lo hi =
+    rw (toZ-pos w32 {n = 4294967295 - w} (omega arith), le-ltb w (2 ^ 31) lo, numberOf) (less-pos (4294967295 - w))
+
+number-fits : (w : ℕ) → w < 2 ^ 32 → 2147483648 ≤ w → SFits w32 (numberOf w)
+unfolding numberOf
+number-fits w hi lo = rw (le-ltb w (2 ^ 31) lo, numberOf) (record { sfits = omega arith })
+
+pub high-fits : (w : ℕ) → 2147483648 ≤ w → w < 2 ^ 32 → SFits w32 (negsuc 0 -ℤ toZ w32 (4294967295 - w))
+high-fits w lo hi = rw (high-is w lo hi) (number-fits w hi lo)
+
+pub number-high : (w : ℕ) → 2147483648 ≤ w → w < 2 ^ 32 → toZ w32 (ofZ w32 (negsuc 0 -ℤ toZ w32 (4294967295 - w))) ≡ numberOf w
+number-high w lo hi = toZ-ofZ (high-fits w lo hi) ∙ high-is w lo hi

@@ -1,0 +1,165 @@
+-- An outline's words part by part: numbers, a table entry by entry, bodies edge by edge. Assumes nothing.
+use mathlib.Core.Path.{_≡_, refl, sym, ap, _∙_}
+use mathlib.Core.List.{List, [], _∷_, _++_}
+use Prim.Native.Nat.{ℕ, zero, suc, _+_, _*_, _^_, _≤_, _<_}
+use native.Mathlib.Omega.{arith}
+use native.Mathlib.Numerals.{add-one}
+use lib.IntN.{ℤ, pos}
+use lib.ListN.{length, getD, take, drop, length-take, drop-of-length-le}
+use lib.Seq.{drop-cons, getD-take, length-take-le}
+use mir.Syntax.{w32, w64}
+use mir.Val.{SFits, toZ, ofZ}
+use mir.Facts.{toZ-ofZ}
+use Rattle.whole.specs.Sizes.{Size}
+use Rattle.whole.proofs.Sizes.{size-fits}
+use Rattle.runs.specs.Runs.{spread, Runs, Room}
+use Rattle.runs.proofs.Laws.{spread-append, runs-as, runs-then}
+use Rattle.plane.specs.Directions.{stepOf}
+use Rattle.plane.proofs.Products.{bits, back, size-back}
+use Rattle.plane.specs.declared.Vector.{Vector}
+use Rattle.arc.specs.Edges.{edgeNumbers}
+use Rattle.arc.specs.Bounds.{Radius}
+use Rattle.arc.specs.declared.Edge.{Edge}
+use Rattle.variable_stroke.specs.Bounds.{Inside, AroundWalk}
+use Rattle.variable_stroke.specs.Limits.{firstOutside}
+use Rattle.variable_stroke.specs.Chains.{emittedOf, nextOf, startOf}
+use Rattle.variable_stroke.specs.Paths.{none, bodiesFrom, bodiesAt, bodiesOf, joined, edgesOf}
+use Rattle.variable_stroke.specs.declared.Vertex.{Vertex}
+use Rattle.variable_stroke.specs.declared.Walk.{Walk}
+use Rattle.variable_stroke.proofs.Allowed.{inside-of}
+use Rattle.variable_stroke.proofs.Contacts.{section-around}
+use Rattle.variable_stroke.proofs.ChainSteps.{next-around}
+use Rattle.variable_stroke.proofs.PathWalk.{allowed-at, edges-none, edges-start, edges-step, edges-end}
+use Rattle.outline.specs.Words.{wordOf, wordsOf, fourBytes, bytesOf, headerOf, entryOf, tableOf, bodyWords, wordsWith, outlineWords}
+use Rattle.outline.specs.Fills.{tableFrom, wordsFrom, closeOf}
+use Rattle.outline.proofs.ReadBack.{bytes-length}
+
+-- ---- numbers as words
+
+pub words-append : (xs ys : List ℤ) → wordsOf (xs ++ ys) ≡ wordsOf xs ++ wordsOf ys
+unfolding wordsOf
+words-append [] ys = refl
+words-append (x ∷ xs) ys = ap (λ r. wordOf x ∷ r) (words-append xs ys)
+
+-- one number more, where w is its word; and no more
+pub words-step : (l : List ℤ) (j : ℕ) {w : ℕ} → j < length l → w ≡ wordOf (getD l j (pos 0)) → wordsOf (drop j l) ≡ (w ∷ []) ++ wordsOf (drop (j + 1) l)
+unfolding wordsOf
+words-step l j h e = rw (e, add-one, drop-cons l j (pos 0) h)
+
+pub words-end : (l : List ℤ) (j : ℕ) → length l ≤ j → wordsOf (drop j l) ≡ []
+unfolding wordsOf
+words-end l j h = rw (drop-of-length-le l h)
+
+-- the same of the first n numbers, where w is what the code has for the word
+pub first-step : (l : List ℤ) (n j : ℕ) {w : ℕ} → j < n → n ≤ length l → SFits w32 (getD l j (pos 0)) → w ≡ wordOf (toZ w32 (ofZ w32 (getD l j (pos 0))))
+    → wordsOf (drop j (take n l)) ≡ (w ∷ []) ++ wordsOf (drop (j + 1) (take n l))
+first-step l n j h k s e = words-step (take n l) j (omega (arith, length-take-le n l k)) (e ∙ ap wordOf (toZ-ofZ s ∙ sym (getD-take n l j (pos 0) h)))
+
+pub first-end : (l : List ℤ) (n j : ℕ) → n ≤ j → wordsOf (drop j (take n l)) ≡ []
+first-end l n j h = words-end (take n l) j (omega (arith, length-take n l))
+
+-- each word is four bytes
+pub four-each : (ws : List ℕ) → length (spread fourBytes ws) ≡ 4 * length ws
+unfolding bytesOf
+four-each ws = bytes-length ws
+
+-- ---- the header and an entry, word by word
+
+pub word-end : {S : Type 0} {f : S → ℕ → ℕ → S} {s s′ : S} {a b w : ℕ} → Runs f fourBytes s a (w ∷ []) s′ b → b ≡ a + 4
+unfolding spread fourBytes
+word-end p = p .pos
+
+pub header-run : {S : Type 0} {f : S → ℕ → ℕ → S} {s₀ s₁ s₂ s₃ s₄ s₅ : S} {at a b c d e g n m : ℕ}
+    → Runs f fourBytes s₀ at (1 ∷ []) s₁ a → Runs f fourBytes s₁ a (0 ∷ []) s₂ b → Runs f fourBytes s₂ b (g ∷ []) s₃ c → Runs f fourBytes s₃ c (n ∷ []) s₄ d → Runs f fourBytes s₄ d (m ∷ []) s₅ e
+    → Runs f fourBytes s₀ at (headerOf g n m) s₅ e
+unfolding headerOf
+header-run o p q r s = runs-then o (runs-then p (runs-then q (runs-then r s)))
+
+pub entry-room : {at : ℕ} (v : Vertex) (count : ℕ) → Room fourBytes at (entryOf v count) → at + 16 < 2 ^ 64
+unfolding entryOf spread fourBytes
+entry-room v count h = h .fits
+
+pub room-entry : {at : ℕ} (v : Vertex) (count : ℕ) → at + 16 < 2 ^ 64 → Room fourBytes at (entryOf v count)
+unfolding entryOf spread fourBytes
+room-entry v count h = record { fits = h }
+
+pub entry-long : (v : Vertex) (count : ℕ) → length (spread fourBytes (entryOf v count)) ≡ 16
+unfolding entryOf spread fourBytes
+entry-long v count = refl
+
+-- a coordinate within the limits, as the code hands it on
+pub coordinate-fits : {z : ℤ} → Size (2 ^ 28) z → Size (2 ^ 31) (bits z)
+coordinate-fits h = size-back (size-fits (2 ^ 28) w64 _ h tt) (record { size = omega (arith, h .size) })
+
+coordinate-word : {z : ℤ} {w : ℕ} → Size (2 ^ 28) z → w ≡ wordOf (bits z) → w ≡ wordOf z
+coordinate-word h e = e ∙ ap wordOf (back (size-fits (2 ^ 28) w64 _ h tt))
+
+pub radius-size : {z : ℤ} → Radius z → Size (2 ^ 28) z
+radius-size h = record { size = h .high }
+
+-- x, y and r are what the code has for the first three words
+pub entry-run : {S : Type 0} {f : S → ℕ → ℕ → S} {s₀ s₁ s₂ s₃ s₄ : S} {at a b c d x y r : ℕ} (v : Vertex) (count : ℕ) → Inside v
+    → x ≡ wordOf (bits (v .x)) → y ≡ wordOf (bits (v .y)) → r ≡ wordOf (bits (v .radius))
+    → Runs f fourBytes s₀ at (x ∷ []) s₁ a → Runs f fourBytes s₁ a (y ∷ []) s₂ b → Runs f fourBytes s₂ b (r ∷ []) s₃ c → Runs f fourBytes s₃ c (count ∷ []) s₄ d
+    → Runs f fourBytes s₀ at (entryOf v count) s₄ d
+unfolding entryOf
+entry-run v count h ex ey er p q s t =
+    runs-as (rw (← coordinate-word (h .x) ex, ← coordinate-word (h .y) ey, ← coordinate-word (radius-size (h .radius)) er)) (runs-then p (runs-then q (runs-then s t)))
+
+-- ---- bodies, edge by edge
+
+pub body-none : bodyWords [] ≡ []
+unfolding bodyWords spread wordsOf
+body-none = refl
+
+pub body-append : (es fs : List Edge) → bodyWords (es ++ fs) ≡ bodyWords es ++ bodyWords fs
+unfolding bodyWords
+body-append es fs = ap wordsOf (spread-append edgeNumbers es fs) ∙ words-append (spread edgeNumbers es) (spread edgeNumbers fs)
+
+module _ (t : Vector) (vs : List Vertex) where
+  pub bodies-none : length vs ≡ 0 → bodyWords (joined (bodiesAt t vs)) ≡ []
+  bodies-none h = ap bodyWords (edges-none t vs h) ∙ body-none
+
+  pub bodies-start : {a : Vertex} {w : Walk} → 0 < length vs → a ≡ getD vs 0 none → w ≡ startOf a → bodyWords (joined (bodiesAt t vs)) ≡ wordsFrom t w (drop 1 vs)
+  unfolding wordsFrom
+  bodies-start h e f = ap bodyWords (edges-start t vs h e f)
+
+  pub bodies-step : (k : ℕ) (w : Walk) {b : Vertex} {u : Walk} → k < length vs → b ≡ getD vs k none → u ≡ nextOf w b
+      → wordsFrom t w (drop k vs) ≡ bodyWords (emittedOf t w b) ++ wordsFrom t u (drop (k + 1) vs)
+  unfolding wordsFrom
+  bodies-step k w {b} {u} h e f = ap bodyWords (edges-step t vs k w h e f) ∙ body-append (emittedOf t w b) (joined (bodiesFrom t u (drop (k + 1) vs)))
+
+  pub bodies-end : (k : ℕ) (w : Walk) → length vs ≤ k → wordsFrom t w (drop k vs) ≡ bodyWords (closeOf t w)
+  unfolding wordsFrom
+  bodies-end k w h = ap bodyWords (edges-end t vs k w h)
+
+-- ---- the table, entry by entry
+
+pub table-none : (t : Vector) (vs : List Vertex) → length vs ≡ 0 → tableOf vs (bodiesAt t vs) ≡ 0 ∷ []
+unfolding tableOf bodiesAt
+table-none t [] h = refl
+table-none t (v ∷ vs) h = absurd (omega arith)
+
+pub table-start : (t : Vector) (vs : List Vertex) {a : Vertex} {w : Walk} → 0 < length vs → a ≡ getD vs 0 none → w ≡ startOf a → tableOf vs (bodiesAt t vs) ≡ entryOf a 0 ++ tableFrom t w (drop 1 vs)
+unfolding tableOf bodiesAt tableFrom
+table-start t [] h e f = absurd (omega arith)
+table-start t (v ∷ vs) h e f = rw (f, e)
+
+module _ (t : Vector) (vs : List Vertex) where
+  pub table-step : (k : ℕ) (w : Walk) {b : Vertex} {u : Walk} → k < length vs → b ≡ getD vs k none → u ≡ nextOf w b
+      → tableFrom t w (drop k vs) ≡ entryOf b (length (emittedOf t w b)) ++ tableFrom t u (drop (k + 1) vs)
+  unfolding tableFrom tableOf bodiesFrom
+  table-step k w h e f = rw (f, add-one, e, drop-cons vs k none h)
+
+  pub table-end : (k : ℕ) (w : Walk) → length vs ≤ k → tableFrom t w (drop k vs) ≡ length (closeOf t w) ∷ []
+  unfolding tableFrom tableOf bodiesFrom
+  table-end k w h = rw (drop-of-length-le vs h)
+
+-- ---- a walk over a path within the limits stays within them
+
+module _ (vs : List Vertex) (k : ℕ) (h : firstOutside vs ≡ length vs) (l : k < length vs) where
+  pub inside-at : {b : Vertex} → b ≡ getD vs k none → Inside b
+  inside-at e = rw e (inside-of (allowed-at vs k h l))
+
+  pub around-next : {b : Vertex} {w u : Walk} → b ≡ getD vs k none → AroundWalk w → u ≡ nextOf w b → AroundWalk u
+  around-next {b} {w} e a f = rw f (next-around w b (λ n. section-around (a .at) (inside-at e) n) a (inside-at e))

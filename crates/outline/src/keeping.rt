@@ -1,0 +1,30 @@
+// keep: the outline of a path into lent bytes.
+use crate::Kept;
+use crate::path_rows::PathCheck;
+use crate::path_rows::check_path;
+use crate::rewriting::rewrite;
+ghost use mathlib.Core.Path.{_≡_};
+ghost use Prim.Native.Nat.{_≤_};
+ghost use lib.ListN.{length};
+ghost use Rattle.outline.specs.Checks.{Fits};
+ghost use Rattle.outline.specs.Answers.{Keeps};
+
+// The outline of a path that passed its rows. A step's edges stand in `own` on their way.
+pub fn keep_path(path: &[i32], n: usize, grade: u32, own: &mut [i32], out: &mut [u8]) -> Kept
+    requires { ⌜ Fits (now path) grade n × (36908 ≤ length (now own)) ⌝ }
+    ensures { λ r. ⌜ Keeps (now (path .entry)) grade (now (out .entry)) r (now (out .exit)) ⌝ }
+{
+    rewrite(path, n, grade, 0, own, out)
+}
+
+// keep with numbers of the caller's for a step's edges.
+pub fn keep_with(path: &[i32], grade: u32, own: &mut [i32], out: &mut [u8]) -> Kept
+    requires { ⌜ 36908 ≤ length (now own) ⌝ }
+    ensures { λ r. ⌜ Keeps (now (path .entry)) grade (now (out .entry)) r (now (out .exit)) ⌝ }
+{
+    let checked = check_path(path, grade);
+    match checked {
+        PathCheck::Refused(r) => Kept::Refused(r),
+        PathCheck::Passed(n) => keep_path(path, n, grade, own, out),
+    }
+}

@@ -1,0 +1,209 @@
+/*
+ * Sehmelir: the boundary of a line that has a radius at each of its points.
+ *
+ * Link with libsehmelir.a, which `rt staticlib sehmelir` writes to
+ * target/staticlib/ for x86-64 Linux. It needs no other library.
+ *
+ * A PATH is lent as 32-bit numbers, three for each vertex: x, y, radius.
+ * x and y go from -268,435,456 to 268,435,456, the radius from 0 to
+ * 268,435,456, and there are 0 to 4,096 vertices. The GRADE, 1 to 8, says how
+ * finely arcs are drawn; 8 is the finest.
+ *
+ * EDGES are written as 32-bit numbers, four for each edge: x and y of its
+ * start, x and y of its end.
+ *
+ * An OUTLINE is a path, its grade and its edges kept as bytes. It has
+ * 24 + 16 * vertices + 16 * edges of them, made of 32-bit little-endian words:
+ *
+ *     1, 0, grade, vertices, edges                      edition 1, kind 0
+ *     for each vertex: x, y, radius, edges drawn on reaching it
+ *     edges drawn at the end
+ *     for each edge: x and y of its start, x and y of its end
+ *
+ * It is SOUND if it equals, byte for byte, what its own vertices and grade
+ * give. A STORE is memory that begins with an outline; what stands after the
+ * outline is neither looked at nor, unless the outline grows over it, changed.
+ *
+ * Lent memory, for all four calls:
+ *
+ * - Lengths count elements: int32_t in a path or in edges, bytes in a store.
+ * - A pointer is never null and is aligned for its type, even where the length
+ *   is 0. Where there is nothing to lend, pass the address of any variable of
+ *   the type, and 0:
+ *
+ *       int32_t none;
+ *       struct sehmelir_reply r = sehmelir_draw(path, path_len, 1, &none, 0);
+ *
+ *   Room of length 0 is allowed, and is the way to ask how much is needed:
+ *   reply 5 comes with the number.
+ * - Two pieces of memory lent to one call must not overlap, and nothing else
+ *   may write them, or read what the call writes, while it runs.
+ * - After a refusal (any reply but 0) no lent memory has changed.
+ * - After reply 0 the result stands at the front of the memory it was lent,
+ *   and the memory past the result is as it was, but for the zeros after a
+ *   replaced outline that shrank (see sehmelir_replace).
+ *
+ * The calls allocate nothing, keep nothing between calls, and may run in
+ * several threads at once. On the stack sehmelir_keep, sehmelir_read and
+ * sehmelir_replace take up to 256 KiB, so a thread that calls them needs more
+ * than that; sehmelir_draw takes little.
+ *
+ * It is proved of each call that its reply and all lent memory afterwards are
+ * what the rules give. The proof rests on memory being lent as said above.
+ */
+#ifndef SEHMELIR_H
+#define SEHMELIR_H
+
+#include <stddef.h>
+#include <stdint.h>
+
+#ifdef __cplusplus
+extern "C" {
+#endif
+
+/* The replies, by number. Each call below says in which order it tests them. */
+enum sehmelir_reply_number {
+    SEHMELIR_DONE = 0,        /* done */
+    SEHMELIR_NOT_TRIPLES = 1, /* the path's numbers are no multiple of three */
+    SEHMELIR_TOO_MANY = 2,    /* above 4,096 vertices */
+    SEHMELIR_GRADE = 3,       /* the grade is not 1 to 8 */
+    SEHMELIR_OUTSIDE = 4,     /* a vertex lies outside the limits */
+    SEHMELIR_NO_ROOM = 5,     /* the result is longer than the room lent */
+    SEHMELIR_NOT_OUTLINE = 6, /* the store is too short, or not of edition 1 */
+    SEHMELIR_KIND = 7,        /* the outline's kind is not 0 */
+    SEHMELIR_NOT_SOUND = 8,   /* the outline is not sound */
+    SEHMELIR_NO_VERTEX = 9    /* the outline has no vertex of that index */
+};
+
+/* What a call answers. */
+struct sehmelir_reply {
+    uint32_t reply;  /* one of enum sehmelir_reply_number */
+    uint32_t grade;  /* after sehmelir_read's reply 0 the grade, else 0 */
+    uint64_t number; /* what it means stands with each reply, below */
+};
+
+/*
+ * Draws the edges of a path into `out`.
+ *
+ * The first of these that applies is the reply:
+ *
+ *     1 SEHMELIR_NOT_TRIPLES  path_len is not a multiple of three
+ *                             number: path_len
+ *     3 SEHMELIR_GRADE        the grade is not 1 to 8
+ *                             number: the grade
+ *     2 SEHMELIR_TOO_MANY     there are above 4,096 vertices
+ *                             number: the vertices
+ *     4 SEHMELIR_OUTSIDE      a vertex lies outside the limits
+ *                             number: the index of the first such vertex
+ *     5 SEHMELIR_NO_ROOM      out_len is below four times the edges
+ *                             number: the edges that there are
+ *     0 SEHMELIR_DONE         the edges stand in `out`, four numbers each
+ *                             number: the edges
+ */
+struct sehmelir_reply sehmelir_draw(const int32_t *path, size_t path_len,
+                                    uint32_t grade, int32_t *out,
+                                    size_t out_len);
+
+/*
+ * Keeps a path, its grade and its edges as an outline in `out`.
+ *
+ * The first of these that applies is the reply:
+ *
+ *     1 SEHMELIR_NOT_TRIPLES  path_len is not a multiple of three
+ *                             number: path_len
+ *     3 SEHMELIR_GRADE        the grade is not 1 to 8
+ *                             number: the grade
+ *     2 SEHMELIR_TOO_MANY     there are above 4,096 vertices
+ *                             number: the vertices
+ *     4 SEHMELIR_OUTSIDE      a vertex lies outside the limits
+ *                             number: the index of the first such vertex
+ *     5 SEHMELIR_NO_ROOM      out_len is below the outline's bytes
+ *                             number: the bytes needed
+ *     0 SEHMELIR_DONE         the outline stands in `out`
+ *                             number: its bytes
+ *
+ * Takes up to 256 KiB of stack.
+ */
+struct sehmelir_reply sehmelir_keep(const int32_t *path, size_t path_len,
+                                    uint32_t grade, uint8_t *out,
+                                    size_t out_len);
+
+/*
+ * Reads the path of a sound outline into `out`, and its grade.
+ *
+ * The first of these that applies is the reply:
+ *
+ *     6 SEHMELIR_NOT_OUTLINE  store_len is below 24, or the edition is not 1
+ *                             number: 0
+ *     7 SEHMELIR_KIND         the kind is not 0
+ *                             number: the kind
+ *     3 SEHMELIR_GRADE        the grade in the store is not 1 to 8
+ *                             number: that grade
+ *     2 SEHMELIR_TOO_MANY     the store says that it has above 4,096 vertices
+ *                             number: the vertices
+ *     6 SEHMELIR_NOT_OUTLINE  store_len is below the bytes that the vertices
+ *                             and edges in the header ask for
+ *                             number: 0
+ *     4 SEHMELIR_OUTSIDE      a vertex in the store lies outside the limits
+ *                             number: the index of the first such vertex
+ *     8 SEHMELIR_NOT_SOUND    the outline is not what its own vertices and
+ *                             grade give
+ *                             number: the index of the first byte that differs
+ *     5 SEHMELIR_NO_ROOM      out_len is below three times the vertices
+ *                             number: the vertices
+ *     0 SEHMELIR_DONE         the path stands in `out`, three numbers a vertex,
+ *                             and the reply holds the grade
+ *                             number: the vertices
+ *
+ * Takes up to 256 KiB of stack.
+ */
+struct sehmelir_reply sehmelir_read(const uint8_t *store, size_t store_len,
+                                    int32_t *out, size_t out_len);
+
+/*
+ * Replaces the vertex of the given index, counted from 0, in a sound outline.
+ * The store then holds the outline of the changed path, at the same grade.
+ *
+ * The room is the whole store: the new outline may reach up to store_len. If
+ * it is longer than the old one it overwrites what stood after that; if it is
+ * shorter, the bytes from its end up to the old end become 0. All bytes past
+ * both are as they were.
+ *
+ * The first of these that applies is the reply:
+ *
+ *     6 SEHMELIR_NOT_OUTLINE  store_len is below 24, or the edition is not 1
+ *                             number: 0
+ *     7 SEHMELIR_KIND         the kind is not 0
+ *                             number: the kind
+ *     3 SEHMELIR_GRADE        the grade in the store is not 1 to 8
+ *                             number: that grade
+ *     2 SEHMELIR_TOO_MANY     the store says that it has above 4,096 vertices
+ *                             number: the vertices
+ *     6 SEHMELIR_NOT_OUTLINE  store_len is below the bytes that the vertices
+ *                             and edges in the header ask for
+ *                             number: 0
+ *     4 SEHMELIR_OUTSIDE      a vertex in the store lies outside the limits
+ *                             number: the index of the first such vertex
+ *     8 SEHMELIR_NOT_SOUND    the outline is not what its own vertices and
+ *                             grade give
+ *                             number: the index of the first byte that differs
+ *     9 SEHMELIR_NO_VERTEX    the index is not below the vertices
+ *                             number: the index
+ *     4 SEHMELIR_OUTSIDE      the new vertex lies outside the limits
+ *                             number: the index
+ *     5 SEHMELIR_NO_ROOM      store_len is below the new outline's bytes
+ *                             number: the bytes needed
+ *     0 SEHMELIR_DONE         the new outline stands in the store
+ *                             number: its bytes
+ *
+ * Takes up to 256 KiB of stack.
+ */
+struct sehmelir_reply sehmelir_replace(uint8_t *store, size_t store_len,
+                                       size_t index, int32_t x, int32_t y,
+                                       int32_t radius);
+
+#ifdef __cplusplus
+}
+#endif
+
+#endif

@@ -1,0 +1,100 @@
+//! The archive's calls, as `include/sehmelir.h` declares them, on slices.
+
+use crate::Refusal;
+
+/// `struct sehmelir_reply`.
+#[repr(C)]
+pub struct Reply {
+    reply: u32,
+    pub grade: u32,
+    number: u64,
+}
+
+impl Reply {
+    /// The number with reply 0, or the refusal.
+    pub fn number(&self) -> Result<usize, Refusal> {
+        // both casts keep the number: the archive links only where usize has
+        // 64 bits, and grades and kinds are 32-bit words
+        let (long, word) = (self.number as usize, self.number as u32);
+        Err(match self.reply {
+            0 => return Ok(long),
+            1 => Refusal::NotTriples(long),
+            2 => Refusal::TooMany(long),
+            3 => Refusal::Grade(word),
+            4 => Refusal::Outside(long),
+            5 => Refusal::NoRoom(long),
+            6 => Refusal::NotOutline,
+            7 => Refusal::Kind(word),
+            8 => Refusal::NotSound(long),
+            9 => Refusal::NoVertex(long),
+            reply => panic!("the archive gives reply {reply}, which this crate does not know"),
+        })
+    }
+}
+
+extern "C" {
+    fn sehmelir_draw(
+        path: *const i32,
+        path_len: usize,
+        grade: u32,
+        out: *mut i32,
+        out_len: usize,
+    ) -> Reply;
+
+    fn sehmelir_keep(
+        path: *const i32,
+        path_len: usize,
+        grade: u32,
+        out: *mut u8,
+        out_len: usize,
+    ) -> Reply;
+
+    fn sehmelir_read(store: *const u8, store_len: usize, out: *mut i32, out_len: usize) -> Reply;
+
+    fn sehmelir_replace(
+        store: *mut u8,
+        store_len: usize,
+        index: usize,
+        x: i32,
+        y: i32,
+        radius: i32,
+    ) -> Reply;
+}
+
+// SAFETY, of every call below: the archive asks for pointers that are not null
+// and aligned, of an empty slice too, to memory of the length beside them that
+// does not overlap and that nobody else writes meanwhile, nor reads where the
+// call writes. A slice's pointer and length are that, and a mutable slice is
+// borrowed by nobody else.
+
+pub fn draw(path: &[i32], grade: u32, out: &mut [i32]) -> Reply {
+    unsafe {
+        sehmelir_draw(
+            path.as_ptr(),
+            path.len(),
+            grade,
+            out.as_mut_ptr(),
+            out.len(),
+        )
+    }
+}
+
+pub fn keep(path: &[i32], grade: u32, out: &mut [u8]) -> Reply {
+    unsafe {
+        sehmelir_keep(
+            path.as_ptr(),
+            path.len(),
+            grade,
+            out.as_mut_ptr(),
+            out.len(),
+        )
+    }
+}
+
+pub fn read(store: &[u8], out: &mut [i32]) -> Reply {
+    unsafe { sehmelir_read(store.as_ptr(), store.len(), out.as_mut_ptr(), out.len()) }
+}
+
+pub fn replace(store: &mut [u8], index: usize, x: i32, y: i32, radius: i32) -> Reply {
+    unsafe { sehmelir_replace(store.as_mut_ptr(), store.len(), index, x, y, radius) }
+}

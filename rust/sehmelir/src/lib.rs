@@ -1,0 +1,190 @@
+#![doc = include_str!("../README.md")]
+#![warn(missing_docs)]
+
+mod foreign;
+mod refusal;
+
+pub use refusal::Refusal;
+
+/// Draws a path's edges into lent numbers, four an edge, and returns how many
+/// edges there are.
+///
+/// The path is x, y and radius of each vertex. An edge is x and y of its start,
+/// then x and y of its end. Numbers of `out` past the edges stay as they were.
+///
+/// ```
+/// let mut out = [7; 36];
+/// assert_eq!(sehmelir::draw(&[0, 0, 10], 1, &mut out), Ok(8));
+/// assert_eq!(out[..8], [10, 0, 6, 8, 6, 8, -3, 10]);
+/// assert_eq!(out[32..], [7; 4]);
+/// ```
+///
+/// # Refusals
+///
+/// In this order: [`NotTriples`](Refusal::NotTriples),
+/// [`Grade`](Refusal::Grade), [`TooMany`](Refusal::TooMany),
+/// [`Outside`](Refusal::Outside), [`NoRoom`](Refusal::NoRoom) with the edges
+/// needed. A refusal leaves `out` as it was.
+///
+/// ```
+/// use sehmelir::{draw, Refusal};
+///
+/// assert_eq!(draw(&[0, 0], 1, &mut []), Err(Refusal::NotTriples(2)));
+/// assert_eq!(draw(&[0, 0, 10], 9, &mut []), Err(Refusal::Grade(9)));
+/// assert_eq!(draw(&[0, 0, -1], 1, &mut []), Err(Refusal::Outside(0)));
+/// assert_eq!(draw(&[0, 0, 10], 1, &mut [0; 31]), Err(Refusal::NoRoom(8)));
+/// ```
+pub fn draw(path: &[i32], grade: u32, out: &mut [i32]) -> Result<usize, Refusal> {
+    foreign::draw(path, grade, out).number()
+}
+
+/// Keeps a path, its grade and its edges as an outline in lent bytes, and
+/// returns how many bytes it has: 24, and 16 for each vertex and each edge.
+///
+/// Bytes of `out` past the outline stay as they were.
+///
+/// ```
+/// let mut out = [7; 170];
+/// assert_eq!(sehmelir::keep(&[0, 0, 10], 1, &mut out), Ok(168));
+/// assert_eq!(out[..20], [1, 0, 0, 0, 0, 0, 0, 0, 1, 0, 0, 0, 1, 0, 0, 0, 8, 0, 0, 0]);
+/// assert_eq!(out[168..], [7, 7]);
+/// ```
+///
+/// # Refusals
+///
+/// Those of [`draw`], with the bytes needed beside
+/// [`NoRoom`](Refusal::NoRoom). A refusal leaves `out` as it was.
+///
+/// ```
+/// use sehmelir::{keep, Refusal};
+///
+/// assert_eq!(keep(&[0, 0, 10], 1, &mut []), Err(Refusal::NoRoom(168)));
+/// ```
+pub fn keep(path: &[i32], grade: u32, out: &mut [u8]) -> Result<usize, Refusal> {
+    foreign::keep(path, grade, out).number()
+}
+
+/// Reads the path of a sound outline into lent numbers, three a vertex, and
+/// returns how many vertices it has, and its grade.
+///
+/// The store begins with the outline and may go on after it. Numbers of `out`
+/// past the path stay as they were.
+///
+/// ```
+/// let store = sehmelir::outline(&[0, 0, 5, 20, 0, 5], 3)?;
+/// let mut out = [7; 8];
+/// assert_eq!(sehmelir::read(&store, &mut out)?, (2, 3));
+/// assert_eq!(out, [0, 0, 5, 20, 0, 5, 7, 7]);
+/// # Ok::<(), sehmelir::Refusal>(())
+/// ```
+///
+/// # Refusals
+///
+/// In this order: [`NotOutline`](Refusal::NotOutline),
+/// [`Kind`](Refusal::Kind), [`Grade`](Refusal::Grade),
+/// [`TooMany`](Refusal::TooMany), [`NotOutline`](Refusal::NotOutline) of a
+/// store shorter than its header says, [`Outside`](Refusal::Outside),
+/// [`NotSound`](Refusal::NotSound), [`NoRoom`](Refusal::NoRoom) with the
+/// vertices needed. A refusal leaves `out` as it was.
+///
+/// ```
+/// use sehmelir::{outline, read, Refusal};
+///
+/// let mut store = outline(&[0, 0, 10], 1)?;
+/// assert_eq!(read(&store, &mut [0; 2]), Err(Refusal::NoRoom(1)));
+/// store[50] ^= 1;
+/// assert_eq!(read(&store, &mut [0; 3]), Err(Refusal::NotSound(50)));
+/// # Ok::<(), Refusal>(())
+/// ```
+pub fn read(store: &[u8], out: &mut [i32]) -> Result<(usize, u32), Refusal> {
+    let reply = foreign::read(store, out);
+    reply.number().map(|vertices| (vertices, reply.grade))
+}
+
+/// Replaces one vertex in a sound outline, at the same grade, and returns how
+/// many bytes the changed outline has.
+///
+/// The whole store is its room. Where it outgrows the old outline it takes the
+/// bytes after that; where it shrinks, zeros follow up to the old end. Bytes
+/// past both stay as they were.
+///
+/// ```
+/// let mut store = sehmelir::outline(&[0, 0, 10], 1)?;
+/// store.push(7);
+/// assert_eq!(sehmelir::replace(&mut store, 0, 3, 4, 1)?, 40);
+/// assert_eq!(store[..40], sehmelir::outline(&[3, 4, 1], 1)?);
+/// assert_eq!(store[40..168], [0; 128]);
+/// assert_eq!(store[168..], [7]);
+/// # Ok::<(), sehmelir::Refusal>(())
+/// ```
+///
+/// # Refusals
+///
+/// Those of [`read`] up to [`NotSound`](Refusal::NotSound), then
+/// [`NoVertex`](Refusal::NoVertex), [`Outside`](Refusal::Outside) of the new
+/// vertex with its index, [`NoRoom`](Refusal::NoRoom) with the bytes needed. A
+/// refusal leaves the store as it was.
+///
+/// ```
+/// use sehmelir::{outline, replace, Refusal};
+///
+/// let mut store = outline(&[0, 0, 1], 1)?;
+/// assert_eq!(replace(&mut store, 1, 0, 0, 10), Err(Refusal::NoVertex(1)));
+/// assert_eq!(replace(&mut store, 0, 0, 0, -1), Err(Refusal::Outside(0)));
+/// assert_eq!(replace(&mut store, 0, 0, 0, 10), Err(Refusal::NoRoom(168)));
+/// # Ok::<(), Refusal>(())
+/// ```
+pub fn replace(
+    store: &mut [u8],
+    index: usize,
+    x: i32,
+    y: i32,
+    radius: i32,
+) -> Result<usize, Refusal> {
+    foreign::replace(store, index, x, y, radius).number()
+}
+
+/// A path's edges in memory of their own: [`draw`] without a room.
+///
+/// ```
+/// let edges = sehmelir::edges(&[0, 0, 5, 20, 0, 5], 1)?;
+/// assert_eq!(edges.len(), 10);
+/// assert_eq!(edges[0], [20, 5, 0, 5]);
+/// # Ok::<(), sehmelir::Refusal>(())
+/// ```
+///
+/// # Refusals
+///
+/// Those of [`draw`] but [`NoRoom`](Refusal::NoRoom).
+pub fn edges(path: &[i32], grade: u32) -> Result<Vec<[i32; 4]>, Refusal> {
+    with_room(|out| draw(path, grade, out.as_flattened_mut()))
+}
+
+/// A path's outline in memory of its own: [`keep`] without a room.
+///
+/// ```
+/// assert_eq!(sehmelir::outline(&[], 2)?.len(), 24);
+/// assert_eq!(sehmelir::outline(&[0, 0, 10], 1)?.len(), 168);
+/// # Ok::<(), sehmelir::Refusal>(())
+/// ```
+///
+/// # Refusals
+///
+/// Those of [`keep`] but [`NoRoom`](Refusal::NoRoom).
+pub fn outline(path: &[i32], grade: u32) -> Result<Vec<u8>, Refusal> {
+    with_room(|out| keep(path, grade, out))
+}
+
+/// What a call writes when it has just the room that it needs, which it tells
+/// when it has none.
+fn with_room<T: Clone + Default>(
+    call: impl Fn(&mut [T]) -> Result<usize, Refusal>,
+) -> Result<Vec<T>, Refusal> {
+    let needed = match call(&mut []) {
+        Err(Refusal::NoRoom(needed)) => needed,
+        settled => settled?,
+    };
+    let mut out = vec![T::default(); needed];
+    call(&mut out)?;
+    Ok(out)
+}

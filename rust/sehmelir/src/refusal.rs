@@ -1,0 +1,61 @@
+use std::error::Error;
+use std::fmt::{self, Display, Formatter};
+
+/// Why a call was refused. A refused call has changed no lent memory.
+#[derive(Clone, Copy, Debug, PartialEq, Eq)]
+pub enum Refusal {
+    /// 1: so many numbers were lent as a path, and that is no multiple of
+    /// three.
+    NotTriples(usize),
+    /// 2: so many vertices are above 4,096.
+    TooMany(usize),
+    /// 3: this grade is not 1 to 8.
+    Grade(u32),
+    /// 4: the vertex of this index, the first such, lies outside the limits: x
+    /// and y from -268,435,456 to 268,435,456, radius from 0 to 268,435,456.
+    Outside(usize),
+    /// 5: the result has so many edges ([`draw`](crate::draw)), bytes
+    /// ([`keep`](crate::keep), [`replace`](crate::replace)) or vertices
+    /// ([`read`](crate::read)), and the room lent is shorter.
+    NoRoom(usize),
+    /// 6: the store has under 24 bytes, or its edition is not 1, or it is
+    /// shorter than its header says.
+    NotOutline,
+    /// 7: the outline is of this kind, which is not 0.
+    Kind(u32),
+    /// 8: the outline is not what its own vertices and grade give, and this
+    /// byte is the first that differs.
+    NotSound(usize),
+    /// 9: the outline has no vertex of this index.
+    NoVertex(usize),
+}
+
+impl Display for Refusal {
+    fn fmt(&self, formatter: &mut Formatter) -> fmt::Result {
+        match self {
+            Refusal::NotTriples(count) => {
+                write!(
+                    formatter,
+                    "a path of {count} numbers is not made of triples"
+                )
+            }
+            Refusal::TooMany(count) => write!(formatter, "{count} vertices are above 4096"),
+            Refusal::Grade(grade) => write!(formatter, "grade {grade} is not 1 to 8"),
+            Refusal::Outside(index) => write!(formatter, "vertex {index} is outside the limits"),
+            Refusal::NoRoom(needed) => write!(
+                formatter,
+                "the room is too short for {needed} edges, vertices or bytes"
+            ),
+            Refusal::NotOutline => {
+                write!(formatter, "the store is too short or not of edition 1")
+            }
+            Refusal::Kind(kind) => write!(formatter, "kind {kind} is not 0"),
+            Refusal::NotSound(byte) => {
+                write!(formatter, "the outline is not sound, first at byte {byte}")
+            }
+            Refusal::NoVertex(index) => write!(formatter, "the outline has no vertex {index}"),
+        }
+    }
+}
+
+impl Error for Refusal {}

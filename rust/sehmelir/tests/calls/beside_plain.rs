@@ -1,0 +1,282 @@
+//! The same call of the archive and of `plain`: the same answer, and the same
+//! lent memory afterwards.
+
+use crate::lent::{self, room};
+use crate::making::{Maker, Path};
+use plain::calls::Reply;
+use sehmelir::Refusal;
+
+/// How many generated cases each call is compared on.
+const CASES: usize = 5_000;
+
+/// Most vertices of a generated path.
+const VERTICES: u64 = 12;
+
+/// How often each reply was given.
+#[derive(Default)]
+struct Tally([usize; 10]);
+
+impl Tally {
+    fn count(&mut self, reply: Reply) {
+        self.0[reply.reply as usize] += 1;
+    }
+
+    /// That the cases gave each of these replies, and more than now and then,
+    /// and no other.
+    fn assert_just(&self, replies: &[usize]) {
+        for (reply, &count) in self.0.iter().enumerate() {
+            let least = if replies.contains(&reply) { 10 } else { 0 };
+            assert!(count >= least, "{count} of reply {reply}: {:?}", self.0);
+            assert_eq!(count > 0, least > 0, "reply {reply}: {:?}", self.0);
+        }
+    }
+}
+
+/// A reply of `plain` as the wrapper gives it, but for the grade.
+fn answer(reply: Reply) -> Result<usize, Refusal> {
+    let number = reply.number as usize;
+    let refusal = match reply.reply {
+        0 => return Ok(number),
+        1 => Refusal::NotTriples(number),
+        2 => Refusal::TooMany(number),
+        3 => Refusal::Grade(reply.number.try_into().unwrap()),
+        4 => Refusal::Outside(number),
+        5 => Refusal::NoRoom(number),
+        6 => Refusal::NotOutline,
+        7 => Refusal::Kind(reply.number.try_into().unwrap()),
+        8 => Refusal::NotSound(number),
+        9 => Refusal::NoVertex(number),
+        other => panic!("{other} is no reply of document 01"),
+    };
+    Err(refusal)
+}
+
+fn draw(path: &[i32], grade: u32, length: usize) -> Reply {
+    let mut expected = room(length);
+    let (answered, out) = lent::draw(path, grade, &expected);
+    let reply = plain::calls::draw(path, grade, &mut expected);
+    assert_eq!(answered, answer(reply), "draw {path:?} {grade} {length}");
+    assert!(out == expected, "draw {path:?} {grade} {length}");
+    reply
+}
+
+fn keep(path: &[i32], grade: u32, length: usize) -> Reply {
+    let mut expected = room(length);
+    let (answered, out) = lent::keep(path, grade, &expected);
+    let reply = plain::calls::keep(path, grade, &mut expected);
+    assert_eq!(answered, answer(reply), "keep {path:?} {grade} {length}");
+    assert!(out == expected, "keep {path:?} {grade} {length}");
+    reply
+}
+
+fn read(store: &[u8], length: usize) -> Reply {
+    let mut expected = room(length);
+    let (answered, out) = lent::read(store, &expected);
+    let reply = plain::calls::read(store, &mut expected);
+    let with_grade = answer(reply).map(|vertices| (vertices, reply.grade));
+    assert_eq!(answered, with_grade, "read {store:?} {length}");
+    assert!(out == expected, "read {store:?} {length}");
+    reply
+}
+
+fn replace(store: &[u8], index: usize, vertex: [i32; 3]) -> (Reply, Vec<u8>) {
+    let (answered, out) = lent::replace(store, index, vertex);
+    let [x, y, radius] = vertex;
+    let mut expected = store.to_vec();
+    let reply = plain::calls::replace(&mut expected, index, x, y, radius);
+    let case = || format!("replace {store:?} {index} {vertex:?}");
+    assert_eq!(answered, answer(reply), "{}", case());
+    assert!(out == expected, "{}", case());
+    (reply, expected)
+}
+
+/// How many edges or bytes a call needs, 0 if it is refused anyhow.
+fn needed(reply: Reply) -> usize {
+    match reply.reply {
+        5 => reply.number as usize,
+        _ => 0,
+    }
+}
+
+fn outline(path: &[[i32; 3]], grade: u32) -> Vec<u8> {
+    let numbers = path.as_flattened();
+    let mut store = vec![0; needed(plain::calls::keep(numbers, grade, &mut []))];
+    assert_eq!(plain::calls::keep(numbers, grade, &mut store).reply, 0);
+    store
+}
+
+#[test]
+fn draws() {
+    let (mut maker, mut tally) = (Maker::new(1), Tally::default());
+    for _ in 0..CASES {
+        let (path, grade) = (maker.lent_path(VERTICES), maker.lent_grade());
+        let edges = needed(plain::calls::draw(&path, grade, &mut []));
+        tally.count(draw(&path, grade, maker.room(4 * edges)));
+    }
+    tally.assert_just(&[0, 1, 2, 3, 4, 5]);
+}
+
+#[test]
+fn keeps() {
+    let (mut maker, mut tally) = (Maker::new(2), Tally::default());
+    for _ in 0..CASES {
+        let (path, grade) = (maker.lent_path(VERTICES), maker.lent_grade());
+        let bytes = needed(plain::calls::keep(&path, grade, &mut []));
+        tally.count(keep(&path, grade, maker.room(bytes)));
+    }
+    tally.assert_just(&[0, 1, 2, 3, 4, 5]);
+}
+
+/// An outline, now and then damaged, now and then with bytes after it.
+fn store(maker: &mut Maker, path: &Path) -> Vec<u8> {
+    let mut store = outline(path, maker.grade());
+    if maker.chance(50) {
+        maker.damage(&mut store);
+    }
+    if maker.chance(50) {
+        store.extend(room::<u8>(maker.index_below(60)));
+    }
+    store
+}
+
+#[test]
+fn reads() {
+    let (mut maker, mut tally) = (Maker::new(3), Tally::default());
+    for _ in 0..CASES {
+        let path = maker.path(VERTICES);
+        let store = store(&mut maker, &path);
+        tally.count(read(&store, maker.room(3 * path.len())));
+    }
+    tally.assert_just(&[0, 2, 3, 4, 5, 6, 7, 8]);
+}
+
+#[test]
+fn replaces() {
+    let (mut maker, mut tally) = (Maker::new(4), Tally::default());
+    for _ in 0..CASES {
+        let path = maker.path(VERTICES);
+        let mut store = store(&mut maker, &path);
+        let index = maker.index(path.len());
+        let vertex = maker.replacement(path.get(index));
+        let [x, y, radius] = vertex;
+        let reply = plain::calls::replace(&mut store.clone(), index, x, y, radius);
+        let length = maker.room(needed(reply)).max(store.len());
+        store.resize(length, 0xEE);
+        tally.count(replace(&store, index, vertex).0);
+    }
+    tally.assert_just(&[0, 2, 3, 4, 5, 6, 7, 8, 9]);
+}
+
+/// One store through many replacements: it stays what keep gives for the path
+/// as it then is, and what stands after it stays too, but for what it grew
+/// over and the zeros where it shrank.
+#[test]
+fn replaces_many_times_in_one_store() {
+    let mut maker = Maker::new(5);
+    for _ in 0..40 {
+        let (mut path, grade) = (maker.path(VERTICES), maker.grade());
+        let mut store = outline(&path, grade);
+        store.resize(store.len() + 20_000, 0xEE);
+        for _ in 0..30 {
+            let index = maker.index(path.len());
+            let vertex = maker.replacement(path.get(index));
+            let (reply, afterwards) = replace(&store, index, vertex);
+            store = afterwards;
+            if reply.reply == 0 {
+                path[index] = vertex;
+            }
+            let outline = sehmelir::outline(path.as_flattened(), grade).unwrap();
+            assert_eq!(store[..outline.len()], outline);
+            assert_eq!(read(&store, 3 * path.len()).grade, grade);
+        }
+    }
+}
+
+/// Paths whose outlines are short enough to go over byte by byte.
+const SHORT: [&[[i32; 3]]; 5] = [
+    &[],
+    &[[0, 0, 10]],
+    &[[0, 0, 2], [10, 10, 2], [20, 20, 2]],
+    &[[0, 0, 5], [20, 0, 5], [10, 0, 4]],
+    &[[0, 0, 1], [20, 0, 1]],
+];
+
+/// Where there are edges no changed byte makes another sound outline.
+#[test]
+fn every_damaged_byte() {
+    for path in SHORT {
+        let sound = outline(path, 1);
+        let has_edges = sound.len() > 24 + 16 * path.len();
+        for at in 0..sound.len() {
+            for change in [1, 0x10, 0x80, 0xFF] {
+                let mut store = sound.clone();
+                store[at] ^= change;
+                let (read, _) = (read(&store, 3 * path.len()), replace(&store, 0, [0, 0, 1]));
+                assert!(read.reply != 0 || !has_edges);
+            }
+        }
+    }
+}
+
+#[test]
+fn every_cut_store() {
+    for path in SHORT {
+        let sound = outline(path, 1);
+        for length in 0..sound.len() {
+            assert_eq!(read(&sound[..length], 3 * path.len()).reply, 6);
+            assert_eq!(replace(&sound[..length], 0, [0, 0, 1]).0.reply, 6);
+        }
+    }
+}
+
+#[test]
+fn every_short_room() {
+    for path in SHORT {
+        let numbers = path.as_flattened();
+        let edges = needed(plain::calls::draw(numbers, 1, &mut []));
+        for length in 0..4 * edges + 3 {
+            let enough = length >= 4 * edges;
+            assert_eq!(draw(numbers, 1, length).reply == 0, enough);
+        }
+        let sound = outline(path, 1);
+        for length in 0..sound.len() + 3 {
+            let enough = length >= sound.len();
+            assert_eq!(keep(numbers, 1, length).reply == 0, enough);
+        }
+        for length in 0..numbers.len() + 3 {
+            let enough = length >= numbers.len();
+            assert_eq!(read(&sound, length).reply == 0, enough);
+        }
+    }
+    let (point, grown) = (outline(&[[0, 0, 1]], 1), outline(&[[0, 0, 10]], 1));
+    for length in point.len()..grown.len() + 3 {
+        let mut store = point.clone();
+        store.resize(length, 0xEE);
+        let enough = length >= grown.len();
+        assert_eq!(replace(&store, 0, [0, 0, 10]).0.reply == 0, enough);
+    }
+}
+
+/// As many vertices as there may be, and the finest grade.
+#[test]
+fn long_paths() {
+    let mut maker = Maker::new(6);
+    for (count, grade) in [(4096, 1), (4096, 4), (300, 8)] {
+        let mut path = Path::new();
+        while path.len() < count {
+            path.extend(maker.path(40));
+        }
+        path.truncate(count);
+        let numbers = path.as_flattened();
+        let edges = needed(plain::calls::draw(numbers, grade, &mut []));
+        assert_eq!(draw(numbers, grade, 4 * edges).reply, 0);
+        assert_eq!(draw(numbers, grade, 4 * edges - 1).reply, 5);
+        let mut store = outline(&path, grade);
+        assert_eq!(keep(numbers, grade, store.len()).reply, 0);
+        assert_eq!(read(&store, numbers.len()).reply, 0);
+        store.resize(store.len() + 100_000, 0xEE);
+        for index in [0, 1, count / 2, count - 1] {
+            assert_eq!(replace(&store, index, [5, -5, 100]).0.reply, 0);
+        }
+    }
+}

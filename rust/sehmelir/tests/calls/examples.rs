@@ -1,0 +1,144 @@
+//! Document 01, "Marked examples, grade 1".
+
+use crate::lent::{draw, keep, read, replace, room};
+use sehmelir::{edges, outline, Refusal};
+
+/// A path, and how many edges each vertex and the closing have.
+type Example = (&'static [[i32; 3]], &'static [usize]);
+
+const EXAMPLES: [Example; 11] = [
+    (&[], &[0]),
+    (&[[0, 0, 10]], &[0, 8]),
+    (&[[0, 0, 1]], &[0, 0]),
+    (&[[0, 0, 2]], &[0, 8]),
+    (&[[0, 0, 5], [20, 0, 5]], &[0, 6, 4]),
+    (&[[0, 0, 5], [20, 0, 5], [40, 0, 5]], &[0, 6, 10, 4]),
+    (&[[0, 0, 10], [3, 0, 2], [6, 0, 10]], &[0, 8, 0, 8]),
+    (&[[0, 0, 10], [3, 0, 2]], &[0, 8, 8]),
+    (&[[0, 0, 5], [3, 4, 0]], &[0, 8, 0]),
+    (&[[0, 0, 1], [20, 0, 1]], &[0, 0, 0]),
+    (&[[268435456, 0, 10]], &[0, 8]),
+];
+
+/// Example 2.
+const CIRCLE: [[i32; 4]; 8] = [
+    [10, 0, 6, 8],
+    [6, 8, -3, 10],
+    [-3, 10, -9, 4],
+    [-9, 4, -10, 0],
+    [-10, 0, -6, -8],
+    [-6, -8, 3, -10],
+    [3, -10, 9, -4],
+    [9, -4, 10, 0],
+];
+
+/// Example 5.
+const SECTION: [[i32; 4]; 10] = [
+    [20, 5, 0, 5],
+    [0, -5, 20, -5],
+    [0, 5, -4, 3],
+    [-4, 3, -5, -1],
+    [-5, -1, -2, -5],
+    [-2, -5, 0, -5],
+    [20, -5, 24, -3],
+    [24, -3, 25, 1],
+    [25, 1, 22, 5],
+    [22, 5, 20, 5],
+];
+
+/// Words as the bytes of a store.
+fn bytes(words: &[i32]) -> Vec<u8> {
+    words.iter().flat_map(|word| word.to_le_bytes()).collect()
+}
+
+/// The outline of an example whose edges are these.
+fn expected_outline((path, counts): Example, edges: &[[i32; 4]]) -> Vec<u8> {
+    let mut words = vec![1, 0, 1, path.len() as i32, edges.len() as i32];
+    for (vertex, &count) in path.iter().zip(counts) {
+        words.extend(vertex);
+        words.push(count as i32);
+    }
+    words.extend(counts.last().map(|&count| count as i32));
+    words.extend(edges.as_flattened());
+    bytes(&words)
+}
+
+#[test]
+fn draw_gives_the_edges() {
+    for (path, counts) in EXAMPLES {
+        let numbers = path.as_flattened();
+        let count: usize = counts.iter().sum();
+        let edges = edges(numbers, 1).unwrap();
+        assert_eq!(edges.len(), count, "{path:?}");
+        let room = room(4 * count + 3);
+        let (answer, out) = draw(numbers, 1, &room);
+        assert_eq!(answer, Ok(count), "{path:?}");
+        assert_eq!(out[..4 * count], *edges.as_flattened(), "{path:?}");
+        assert_eq!(out[4 * count..], room[4 * count..], "{path:?}");
+    }
+    assert_eq!(edges(&[0, 0, 10], 1).unwrap(), CIRCLE);
+    assert_eq!(edges(&[0, 0, 5, 20, 0, 5], 1).unwrap(), SECTION);
+}
+
+#[test]
+fn keep_gives_the_outline() {
+    for (path, counts) in EXAMPLES {
+        let numbers = path.as_flattened();
+        let expected = expected_outline((path, counts), &edges(numbers, 1).unwrap());
+        assert_eq!(outline(numbers, 1).unwrap(), expected, "{path:?}");
+        let room = room(expected.len() + 3);
+        let (answer, out) = keep(numbers, 1, &room);
+        assert_eq!(answer, Ok(expected.len()), "{path:?}");
+        assert_eq!(out[..expected.len()], expected, "{path:?}");
+        assert_eq!(out[expected.len()..], room[expected.len()..], "{path:?}");
+    }
+    assert_eq!(outline(&[], 1).unwrap().len(), 24);
+    let circle = outline(&[0, 0, 10], 1).unwrap();
+    assert_eq!(circle[..40], bytes(&[1, 0, 1, 1, 8, 0, 0, 10, 0, 8]));
+    assert_eq!(circle.len(), 168);
+}
+
+#[test]
+fn read_gives_the_path() {
+    for (path, _) in EXAMPLES {
+        let numbers = path.as_flattened();
+        let mut store = outline(numbers, 1).unwrap();
+        store.extend([7; 5]);
+        let room = room(numbers.len() + 2);
+        let (answer, out) = read(&store, &room);
+        assert_eq!(answer, Ok((path.len(), 1)), "{path:?}");
+        assert_eq!(out[..numbers.len()], *numbers, "{path:?}");
+        assert_eq!(out[numbers.len()..], room[numbers.len()..], "{path:?}");
+    }
+}
+
+/// Each example's vertices, one after another, become (0,0,1): the outline is
+/// that of the changed path, zeros follow where it shrank, then what was there.
+#[test]
+fn replace_gives_the_outline_of_the_changed_path() {
+    for (path, _) in EXAMPLES {
+        let mut path = path.to_vec();
+        let mut outline_before = outline(path.as_flattened(), 1).unwrap();
+        for index in 0..path.len() {
+            let old = outline_before.len();
+            let store = [&outline_before, room(500).as_slice()].concat();
+            path[index] = [0, 0, 1];
+            let expected = outline(path.as_flattened(), 1).unwrap();
+            let (answer, out) = replace(&store, index, [0, 0, 1]);
+            assert_eq!(answer, Ok(expected.len()), "{path:?}");
+            assert_eq!(out[..expected.len()], expected, "{path:?}");
+            let end = old.max(expected.len());
+            assert!(out[expected.len()..end].iter().all(|&byte| byte == 0));
+            assert_eq!(out[end..], store[end..], "{path:?}");
+            outline_before = expected;
+        }
+    }
+}
+
+#[test]
+fn the_limit_is_taken_and_one_more_is_refused() {
+    assert_eq!(draw(&[268435456, 0, 10], 1, &room(32)).0, Ok(8));
+    let refused = Err(Refusal::Outside(0));
+    assert_eq!(draw(&[268435457, 0, 10], 1, &room(32)).0, refused);
+    assert_eq!(keep(&[268435457, 0, 10], 1, &room(168)).0, refused);
+}

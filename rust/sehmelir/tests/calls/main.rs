@@ -1,0 +1,9 @@
+//! The calls of the archive, through the wrapper. Every buffer that is lent
+//! stands between canaries.
+
+mod beside_plain;
+mod examples;
+mod lent;
+mod making;
+mod refusals;
+mod stack;

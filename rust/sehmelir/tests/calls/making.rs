@@ -1,0 +1,181 @@
+//! Generated paths, grades, rooms and damage.
+
+use plain::random::Random;
+
+const MOST: i64 = 268435456;
+
+/// Vertices of x, y and radius.
+pub type Path = Vec<[i32; 3]>;
+
+pub struct Maker {
+    random: Random,
+}
+
+impl Maker {
+    pub fn new(seed: u64) -> Maker {
+        Maker {
+            random: Random::new(seed),
+        }
+    }
+
+    pub fn chance(&mut self, percent: u64) -> bool {
+        self.random.chance(percent)
+    }
+
+    fn within(&mut self, side: i64, radius: i64) -> [i32; 3] {
+        let random = &mut self.random;
+        [(-side, side), (-side, side), (0, radius)]
+            .map(|(least, most)| random.between(least, most) as i32)
+    }
+
+    /// A vertex of any size within the limits.
+    fn vertex(&mut self) -> [i32; 3] {
+        let (side, radius) = self.random.pick(&[(9, 6), (100, 40), (MOST, MOST)]);
+        self.within(side, radius)
+    }
+
+    /// A vertex that lies outside the limits, if only just.
+    pub fn vertex_outside(&mut self) -> [i32; 3] {
+        let mut vertex = self.vertex();
+        let past = MOST as i32 + 1;
+        let place = self.random.below(3) as usize;
+        vertex[place] = match place {
+            2 => self.random.pick(&[-1, past, i32::MIN, i32::MAX]),
+            _ => self.random.pick(&[past, -past, i32::MIN, i32::MAX]),
+        };
+        vertex
+    }
+
+    /// A path within the limits, of few vertices: at one of many scales, with
+    /// straight runs, repeated points, equal radii and thin steps among them.
+    pub fn path(&mut self, most: u64) -> Path {
+        let scales = [
+            (3, 2),
+            (8, 4),
+            (30, 12),
+            (300, 1),
+            (1000, 300),
+            (1000, 4000),
+            (1 << 20, 1 << 18),
+            (MOST, 1000),
+            (MOST, MOST),
+        ];
+        let (side, radius) = self.random.pick(&scales);
+        let mut path = Path::new();
+        for _ in 0..self.random.below(most + 1) {
+            let [x, y, r] = self.within(side, radius);
+            let vertex = match (path.last(), self.random.below(100)) {
+                (Some(&[x, y, _]), 0..8) => [x, y, r],
+                (Some(&[x, _, r]), 8..20) => [x, y, r],
+                (Some(&[_, y, _]), 20..28) => [x, y, r],
+                (_, 28..36) => [x, y, r % 2],
+                _ => [x, y, r],
+            };
+            path.push(vertex);
+        }
+        path
+    }
+
+    /// The numbers of a path that now and then is to be refused.
+    pub fn lent_path(&mut self, most: u64) -> Vec<i32> {
+        let mut path = self.path(most);
+        if self.chance(8) && !path.is_empty() {
+            let place = self.index_below(path.len());
+            path[place] = self.vertex_outside();
+        }
+        if self.chance(1) {
+            path.resize(self.random.pick(&[4097, 5000]), [0; 3]);
+        }
+        let mut numbers = path.concat();
+        if self.chance(4) {
+            numbers.extend(self.random.pick(&[[1, 2].as_slice(), &[3]]));
+        }
+        numbers
+    }
+
+    pub fn grade(&mut self) -> u32 {
+        self.random.pick(&[1, 1, 1, 2, 2, 3, 4, 5, 6, 7, 8])
+    }
+
+    /// A grade that now and then is to be refused.
+    pub fn lent_grade(&mut self) -> u32 {
+        match self.chance(5) {
+            true => self.random.pick(&[0, 9, 256, 257, u32::MAX]),
+            false => self.grade(),
+        }
+    }
+
+    /// How much room to lend where so much is needed: just that, more, or too
+    /// little.
+    pub fn room(&mut self, needed: usize) -> usize {
+        match self.random.below(8) {
+            0 => 0,
+            1 => self.index_below(needed.max(1)),
+            2 | 3 => needed.saturating_sub(1),
+            4 => needed + 1 + self.index_below(40),
+            _ => needed,
+        }
+    }
+
+    pub fn index_below(&mut self, count: usize) -> usize {
+        self.random.below(count as u64) as usize
+    }
+
+    /// An index that mostly is below `count`.
+    pub fn index(&mut self, count: usize) -> usize {
+        match self.random.below(20) {
+            0 => count,
+            1 => self.random.pick(&[count + 1, 4096, 1 << 32, usize::MAX]),
+            _ => self.index_below(count.max(1)),
+        }
+    }
+
+    /// A vertex to put in the place of another: that one a little changed, or
+    /// any, or one to be refused.
+    pub fn replacement(&mut self, old: Option<&[i32; 3]>) -> [i32; 3] {
+        match (old, self.random.below(20)) {
+            (_, 0) => self.vertex_outside(),
+            (Some(&[x, y, radius]), 1..12) => {
+                let [right, up, other] = self.within(3, 8);
+                let radius = self.random.pick(&[radius, radius, other, 0, 1]);
+                [x.saturating_add(right), y.saturating_add(up), radius]
+            }
+            _ => self.vertex(),
+        }
+    }
+
+    /// Damages a store: a byte, a word that means something, or its length.
+    pub fn damage(&mut self, store: &mut Vec<u8>) {
+        let word = |store: &[u8], place: usize| {
+            let at = 4 * place;
+            u32::from_le_bytes([store[at], store[at + 1], store[at + 2], store[at + 3]])
+        };
+        let (vertices, edges) = (word(store, 3), word(store, 4));
+        let random = &mut self.random;
+        let (place, word) = match random.below(14) {
+            0..4 => {
+                let at = random.below(store.len() as u64) as usize;
+                store[at] = store[at].wrapping_add(random.between(1, 255) as u8);
+                return;
+            }
+            4 => return store.truncate(random.below(store.len() as u64) as usize),
+            5 => return store.truncate(random.pick(&[0, 20, 23, store.len() - 1])),
+            6 => (0, random.pick(&[0, 2, 257, u32::MAX])),
+            7 => (1, random.pick(&[1, 256, 1 << 31])),
+            8 => (2, random.pick(&[0, 1, 2, 8, 9, 257, u32::MAX])),
+            9 => (3, random.pick(&[vertices + 1, 0, 4096, 4097, u32::MAX])),
+            10 => (4, random.pick(&[edges + 1, edges / 2, 0, u32::MAX])),
+            11 | 12 if vertices > 0 => {
+                let place = 5 + 4 * random.below(vertices as u64) + random.below(3);
+                let past = MOST as u32 + 1;
+                let words = [past, past.wrapping_neg(), 1 << 31, u32::MAX, 0, 1];
+                (place as usize, random.pick(&words))
+            }
+            _ => {
+                let place = 5 + random.below((store.len() / 4 - 5) as u64);
+                (place as usize, random.below(20) as u32)
+            }
+        };
+        store[4 * place..4 * place + 4].copy_from_slice(&word.to_le_bytes());
+    }
+}

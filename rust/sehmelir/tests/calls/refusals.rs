@@ -1,0 +1,183 @@
+//! Document 01, "Replies, tested in this order": every refusal of every call,
+//! each with as many of the later ones as can hold beside it. No refusal
+//! changes lent memory.
+
+use crate::lent::{draw, keep, read, replace, room, Outcome};
+use sehmelir::{outline, Refusal};
+use std::error::Error;
+use std::fmt::Debug;
+
+const FAR: i32 = 268435457;
+
+/// That a call was refused so and left its room as it was.
+fn assert_refused<A, T>(outcome: Outcome<A, T>, room: &[T], expected: Refusal)
+where
+    A: Debug + PartialEq,
+    T: Debug + PartialEq,
+{
+    let (answer, afterwards) = outcome;
+    assert_eq!(answer, Err(expected));
+    assert_eq!(afterwards, room, "{expected:?}");
+}
+
+#[test]
+fn of_paths() {
+    let far = vec![FAR; 3 * 4097];
+    let table: [(&[i32], u32, Refusal); 12] = [
+        (&[7], 1, Refusal::NotTriples(1)),
+        (&far[..12290], 9, Refusal::NotTriples(12290)),
+        (&far, 9, Refusal::Grade(9)),
+        (&far, 0, Refusal::Grade(0)),
+        (&[], u32::MAX, Refusal::Grade(u32::MAX)),
+        (&far, 8, Refusal::TooMany(4097)),
+        (&far[..12288], 8, Refusal::Outside(0)),
+        (&[0, 0, 0, 1, 1, -1, 0, 0, FAR], 1, Refusal::Outside(1)),
+        (&[0, -FAR, 1], 1, Refusal::Outside(0)),
+        (&[0, FAR, 1], 1, Refusal::Outside(0)),
+        (&[0, 0, FAR], 1, Refusal::Outside(0)),
+        (&[i32::MIN, i32::MIN, i32::MIN], 1, Refusal::Outside(0)),
+    ];
+    for (path, grade, expected) in table {
+        for length in [0, 1, 200] {
+            let (numbers, bytes) = (room(length), room(length));
+            assert_refused(draw(path, grade, &numbers), &numbers, expected);
+            assert_refused(keep(path, grade, &bytes), &bytes, expected);
+        }
+    }
+}
+
+/// A store of these words, and more bytes after them.
+fn store(words: &[i32], more: usize) -> Vec<u8> {
+    let bytes = words.iter().flat_map(|word| word.to_le_bytes());
+    bytes.chain(room(more)).collect()
+}
+
+#[test]
+fn of_stores() {
+    let mut damaged = outline(&[0, 0, 2], 1).unwrap();
+    damaged[50] ^= 1;
+    let table = [
+        (store(&[], 0), Refusal::NotOutline),
+        (store(&[1, 0, 1, 0, 0], 3), Refusal::NotOutline),
+        (store(&[2, 1, 9, 4097, 0, 0], 0), Refusal::NotOutline),
+        (store(&[1, 1, 9, 4097, 0, 0], 0), Refusal::Kind(1)),
+        (store(&[1, -1, 9, 4097, 0, 0], 0), Refusal::Kind(u32::MAX)),
+        (store(&[1, 0, 9, 4097, 0, 0], 0), Refusal::Grade(9)),
+        (store(&[1, 0, 0, 4097, 0, 0], 0), Refusal::Grade(0)),
+        (store(&[1, 0, -1, 4097, 0, 0], 0), Refusal::Grade(u32::MAX)),
+        (store(&[1, 0, 8, 4097, 0, 0], 0), Refusal::TooMany(4097)),
+        (store(&[1, 0, 8, -1, 0, 0], 0), Refusal::TooMany(4294967295)),
+        (
+            store(&[1, 0, 8, 1, 0, FAR, 0, 0, 0], 3),
+            Refusal::NotOutline,
+        ),
+        (
+            store(&[1, 0, 8, 1, -1, FAR, 0, 0, 0, 7], 0),
+            Refusal::NotOutline,
+        ),
+        (
+            store(&[1, 0, 8, 1, 0, FAR, 0, 0, 0, 7], 0),
+            Refusal::Outside(0),
+        ),
+        (
+            store(&[1, 0, 8, 1, 0, 0, 0, -1, 0, 7], 0),
+            Refusal::Outside(0),
+        ),
+        (
+            store(&[1, 0, 1, 1, 0, 0, 0, 2, 8, 0], 0),
+            Refusal::NotSound(16),
+        ),
+        (
+            store(&[1, 0, 1, 1, 0, 0, 0, 0, 7, 7], 0),
+            Refusal::NotSound(32),
+        ),
+        (store(&[1, 0, 1, 0, 0, 256], 9), Refusal::NotSound(21)),
+        (damaged, Refusal::NotSound(50)),
+    ];
+    for (store, expected) in table {
+        for length in [0, 2, 200] {
+            let numbers = room(length);
+            assert_refused(read(&store, &numbers), &numbers, expected);
+        }
+        assert_refused(replace(&store, 7, [FAR, 0, 0]), &store, expected);
+        assert_refused(replace(&store, 0, [0, 0, 1]), &store, expected);
+    }
+}
+
+#[test]
+fn of_replacements() {
+    let store = outline(&[0, 0, 1, 50, 0, 1], 1).unwrap();
+    let table = [
+        (2, [FAR, 0, 0], Refusal::NoVertex(2)),
+        (usize::MAX, [0, 0, 5], Refusal::NoVertex(usize::MAX)),
+        (1, [FAR, 0, 5], Refusal::Outside(1)),
+        (1, [0, -FAR, 5], Refusal::Outside(1)),
+        (0, [0, 0, FAR], Refusal::Outside(0)),
+        (0, [0, 0, -1], Refusal::Outside(0)),
+        (0, [0, 0, i32::MIN], Refusal::Outside(0)),
+    ];
+    for (index, vertex, expected) in table {
+        assert_refused(replace(&store, index, vertex), &store, expected);
+        let longer = [&store, room(400).as_slice()].concat();
+        assert_refused(replace(&longer, index, vertex), &longer, expected);
+    }
+}
+
+#[test]
+fn of_rooms() {
+    let circle = [0, 0, 10];
+    for length in [0, 1, 31] {
+        let room = room(length);
+        assert_refused(draw(&circle, 1, &room), &room, Refusal::NoRoom(8));
+    }
+    assert_eq!(draw(&circle, 1, &room(32)).0, Ok(8));
+    for length in [0, 1, 167] {
+        let room = room(length);
+        assert_refused(keep(&circle, 1, &room), &room, Refusal::NoRoom(168));
+    }
+    let (answer, store) = keep(&circle, 1, &room(168));
+    assert_eq!(answer, Ok(168));
+    for length in [0, 1, 2] {
+        let room = room(length);
+        assert_refused(read(&store, &room), &room, Refusal::NoRoom(1));
+    }
+    assert_eq!(read(&store, &room(3)).0, Ok((1, 1)));
+    let point = outline(&[0, 0, 1], 1).unwrap();
+    for more in [0, 1, 127] {
+        let store = [&point, room(more).as_slice()].concat();
+        assert_refused(replace(&store, 0, circle), &store, Refusal::NoRoom(168));
+    }
+    let grown = [&point, room(128).as_slice()].concat();
+    assert_eq!(replace(&grown, 0, circle), (Ok(168), store));
+}
+
+#[test]
+fn say_why() {
+    let table = [
+        (
+            Refusal::NotTriples(4),
+            "a path of 4 numbers is not made of triples",
+        ),
+        (Refusal::TooMany(4097), "4097 vertices are above 4096"),
+        (Refusal::Grade(9), "grade 9 is not 1 to 8"),
+        (Refusal::Outside(3), "vertex 3 is outside the limits"),
+        (
+            Refusal::NoRoom(8),
+            "the room is too short for 8 edges, vertices or bytes",
+        ),
+        (
+            Refusal::NotOutline,
+            "the store is too short or not of edition 1",
+        ),
+        (Refusal::Kind(1), "kind 1 is not 0"),
+        (
+            Refusal::NotSound(50),
+            "the outline is not sound, first at byte 50",
+        ),
+        (Refusal::NoVertex(2), "the outline has no vertex 2"),
+    ];
+    for (refusal, text) in table {
+        let error: &dyn Error = &refusal;
+        assert_eq!(error.to_string(), text);
+    }
+}
