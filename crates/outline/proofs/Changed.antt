@@ -36,7 +36,7 @@ either true b e = absurd (true≢false e)
 either false b e = (refl, e)
 
 -- ---- the path
-pub entries-count : (n : ℕ) (ws : List ℕ) → length (entriesIn n ws) ≤ n
+entries-count : (n : ℕ) (ws : List ℕ) → length (entriesIn n ws) ≤ n
 unfolding entriesIn
 entries-count zero ws = omega arith
 entries-count (suc n) [] = omega arith
@@ -54,34 +54,50 @@ outside-most (v ∷ vs) = go (allowedOf v) (outside-most vs)
     go true h = omega arith
     go false h = omega arith
 
-pub outside-set : (vs : List Vertex) (k : ℕ) (v : Vertex) → allowedOf v ≡ true → firstOutside vs ≡ length vs → firstOutside (set vs k v) ≡ length vs
+outside-set : (vs : List Vertex) (k : ℕ) (v : Vertex) → allowedOf v ≡ true → firstOutside vs ≡ length vs → firstOutside (set vs k v) ≡ length vs
 unfolding firstOutside
 outside-set [] k v a h = refl
 outside-set (u ∷ vs) zero v a h = rw (a, firstOutside) (ap suc (inside-first u vs h .1))
 outside-set (u ∷ vs) (suc k) v a h = rw (inside-first u vs h .0, firstOutside) (ap suc (outside-set vs k v a (inside-first u vs h .1)))
 
 -- ---- the call
-replace-none : (s : List ℕ) (k : ℕ) (v : Vertex) → replaceReply s k v .0 ≡ 0
+pub replace-none : (s : List ℕ) (k : ℕ) (v : Vertex) → replaceReply s k v .0 ≡ 0
     → NoneHold (storeRows s ++ (indexRow (length (pathIn s)) k ∷ newRow v k ∷ roomRow (length (replacedOf s k v)) (length s) (length (replacedOf s k v)) ∷ []))
 unfolding replaceReply storeRows editionRow kindRow gradeRow countRow lengthRow outsideRow soundRow indexRow newRow roomRow
 replace-none s k v h = first-none _ _ (refl, (refl, (refl, (refl, (refl, (refl, (refl, (refl, (refl, (refl, tt)))))))))) h
 
-within-set : (s : List ℕ) (k : ℕ) (v : Vertex) → replaceReply s k v .0 ≡ 0 → Within (gradeIn s) (set (pathIn s) k v)
-unfolding storeRows gradeRow countRow outsideRow newRow pathIn
-within-set s k v h =
+-- the store's own path is within the limits, and so is it with a vertex that is allowed
+pub within-store : (s : List ℕ) (k : ℕ) (v : Vertex) → replaceReply s k v .0 ≡ 0 → Within (gradeIn s) (pathIn s)
+unfolding storeRows gradeRow countRow outsideRow pathIn
+within-store s k v h =
     let r = replace-none s k v h in
     let g = either _ _ (r .1 .1 .0) in
     let vs = pathIn s in
     let n : length vs ≤ countIn s = entries-count (countIn s) (drop 5 (wordsIn s)) in
-    let i : firstOutside vs ≡ length vs = le-antisymm (outside-most vs) (ltb-false _ _ (r .1 .1 .1 .1 .1 .0)) in
     record {
       low = ltb-false _ _ (g .0);
       high = ltb-false _ _ (g .1);
-      count = omega (arith, length-set vs k v, n, ltb-false 4096 (countIn s) (r .1 .1 .1 .0));
-      inside = outside-set vs k v (not-false _ (r .1 .1 .1 .1 .1 .1 .1 .1 .0)) i ∙ sym (length-set vs k v);
+      count = omega (arith, n, ltb-false 4096 (countIn s) (r .1 .1 .1 .0));
+      inside = le-antisymm (outside-most vs) (ltb-false _ _ (r .1 .1 .1 .1 .1 .0));
     }
 
-out-is : (s : List ℕ) (k : ℕ) (v : Vertex) → replaceReply s k v .0 ≡ 0
+pub within-changed : (g : ℕ) (vs : List Vertex) (k : ℕ) (v : Vertex) → Within g vs → allowedOf v ≡ true → Within g (set vs k v)
+within-changed g vs k v h a = record {
+  low = h .low;
+  high = h .high;
+  count = omega (arith, length-set vs k v, h .count);
+  inside = outside-set vs k v a (h .inside) ∙ sym (length-set vs k v);
+}
+
+pub within-set : (s : List ℕ) (k : ℕ) (v : Vertex) → replaceReply s k v .0 ≡ 0 → Within (gradeIn s) (set (pathIn s) k v)
+unfolding storeRows newRow
+within-set s k v h = within-changed (gradeIn s) (pathIn s) k v (within-store s k v h) (not-false _ (replace-none s k v h .1 .1 .1 .1 .1 .1 .1 .1 .0))
+
+pub sound-store : (s : List ℕ) (k : ℕ) (v : Vertex) → replaceReply s k v .0 ≡ 0 → soundOf s ≡ true
+unfolding storeRows soundRow
+sound-store s k v h = not-false _ (replace-none s k v h .1 .1 .1 .1 .1 .1 .0)
+
+pub out-is : (s : List ℕ) (k : ℕ) (v : Vertex) → replaceReply s k v .0 ≡ 0
     → replaceOut s k v ≡ outlineBytes (gradeIn s) (set (pathIn s) k v) ++ (replicate (lengthIn s - length (replacedOf s k v)) 0 ++ drop (length (replacedOf s k v ++ replicate (lengthIn s - length (replacedOf s k v)) 0)) s)
 unfolding replaceOut written replacedOf
 out-is s k v h = rw (h, written) (append-assoc (replacedOf s k v) (replicate (lengthIn s - length (replacedOf s k v)) 0) _)

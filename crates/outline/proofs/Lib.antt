@@ -14,3 +14,12 @@ pub mod FilledSteps
 pub mod Whole
 pub mod Rewrites
 pub mod Keeps
+pub mod Comparisons
+pub mod FirstByte
+pub mod Shown
+pub mod StoreRows
+pub mod StoreReads
+pub mod NewVertex
+pub mod KnownStore
+pub mod BodiesInBytes
+pub mod ThroughCalls

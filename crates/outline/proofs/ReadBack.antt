@@ -221,7 +221,7 @@ unfolding firstRow
 first-skip [] more last h = refl
 first-skip (row ∷ rows) more last h = rw (h .0, firstRow) (first-skip rows more last (h .1))
 
-header-word : (g : ℕ) (vs : List Vertex) (rest : List ℕ) → Within g vs → (n : ℕ) → wordAt (outlineBytes g vs ++ rest) n ≡ getD (outlineWords g vs ++ wordsIn rest) n 0
+pub header-word : (g : ℕ) (vs : List Vertex) (rest : List ℕ) → Within g vs → (n : ℕ) → wordAt (outlineBytes g vs ++ rest) n ≡ getD (outlineWords g vs ++ wordsIn rest) n 0
 unfolding wordAt
 header-word g vs rest h n = ap (λ (l : List ℕ). getD l n 0) (store-words g vs rest h)
 

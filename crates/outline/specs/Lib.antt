@@ -7,3 +7,5 @@ pub mod Examples
 pub mod Theorems
 pub mod Checks
 pub mod Fills
+pub mod Compares
+pub mod StoreChecks

@@ -2,7 +2,7 @@
 use mathlib.Core.Bool.{Bool, true, false}
 use mathlib.Core.List.{List, [], _∷_}
 use Prim.Native.Nat.{ℕ, zero, suc, _+_, _*_}
-use lib.Dec.{eqb}
+use lib.Dec.{eqb, ltb}
 use lib.IntN.{pos}
 use lib.ListN.{getD, take, drop}
 use Rattle.arc.specs.declared.Edge.{Edge}
@@ -77,3 +77,16 @@ firstDiffering (a ∷ l) (b ∷ m) = elim (eqb a b) [ true ↦ suc (firstDifferi
 -- the first byte of a store that differs from what is due
 unfoldable pub differingIn : List ℕ → ℕ
 differingIn store = firstDiffering (take (lengthIn store) store) (dueIn store)
+
+-- How many edges the table says that body i has: a word of its vertex's entry, and past the entries the word of the closing body, which is body n.
+unfoldable pub edgesIn : List ℕ → ℕ → ℕ
+edgesIn store i = elim (ltb i (countIn store)) [ true ↦ wordAt store (8 + 4 * i) | false ↦ wordAt store (5 + 4 * countIn store) ]
+
+-- and how many all the bodies before it have
+unfoldable pub edgesBefore : List ℕ → ℕ → ℕ
+edgesBefore store zero = 0
+edgesBefore store (suc i) = edgesBefore store i + edgesIn store i
+
+-- The bytes of body i as the table marks them off: 16 an edge, from 24 + 16n on.
+unfoldable pub bodyBytesIn : List ℕ → ℕ → List ℕ
+bodyBytesIn store i = take (16 * edgesIn store i) (drop (24 + 16 * countIn store + 16 * edgesBefore store i) store)

@@ -2,16 +2,16 @@
 use mathlib.Core.Path.{_≡_}
 use mathlib.Core.Bool.{true, false}
 use mathlib.Core.List.{List, [], _∷_, _++_}
-use Prim.Native.Nat.{ℕ, _+_, _*_, _≤_, _<_}
+use Prim.Native.Nat.{ℕ, _+_, _-_, _*_, _≤_, _<_}
 use lib.IntN.{ℤ}
-use lib.ListN.{length, take, drop, set}
+use lib.ListN.{length, getD, take, drop, set, replicate}
 use Rattle.variable_stroke.specs.Limits.{firstOutside}
-use Rattle.variable_stroke.specs.Paths.{pathNumbers, edgesOf}
+use Rattle.variable_stroke.specs.Paths.{pathOf, pathNumbers, edgesOf}
 use Rattle.variable_stroke.specs.Local.{reachOf}
 use Rattle.variable_stroke.specs.declared.Vertex.{Vertex}
-use Rattle.outline.specs.Words.{outlineBytes}
-use Rattle.outline.specs.Stores.{editionIn, kindIn, gradeIn, countIn, lengthIn, pathIn, dueIn, bodiesIn, soundOf, differingIn}
-use Rattle.outline.specs.Replies.{readReply, readGrade, readOut, replaceReply, replaceOut}
+use Rattle.outline.specs.Words.{bytesOf, bodyWords, outlineBytes}
+use Rattle.outline.specs.Stores.{editionIn, kindIn, gradeIn, countIn, lengthIn, pathIn, dueIn, bodiesIn, soundOf, differingIn, bodyBytesIn}
+use Rattle.outline.specs.Replies.{keepReply, keepOut, readReply, readGrade, readOut, replaceReply, replaceOut}
 use Rattle.outline.specs.Answers.{Draws, Keeps, Reads, Replaces}
 use Rattle.outline.specs.declared.Drawn.{Drawn}
 use Rattle.outline.specs.declared.Kept.{Kept}
@@ -94,3 +94,30 @@ abbrev pub StoreKept : Type 0
 StoreKept = (s : List ℕ) (k : ℕ) (v : Vertex) → replaceReply s k v .0 ≡ 0
     → (take k (bodiesIn (replaceOut s k v)) ≡ take k (bodiesIn s))
     × (reachOf (pathIn s) k + 1 < length (pathIn s) → drop (reachOf (pathIn s) k + 1) (bodiesIn (replaceOut s k v)) ≡ drop (reachOf (pathIn s) k + 1) (bodiesIn s))
+
+-- What keep wrote, read accepts and gives back, number for number, with the grade.
+abbrev pub KeepRead : Type 0
+KeepRead = (path : List ℤ) (g : ℕ) (out : List ℕ) (room : List ℤ) → keepReply path g (length out) .0 ≡ 0 → length path ≤ length room
+    → (readReply (keepOut path g out) (length room) ≡ (0, length (pathOf path)))
+    × (readGrade (keepOut path g out) (length room) ≡ g)
+    × (readOut (keepOut path g out) room ≡ path ++ drop (length path) room)
+
+-- A store in which a vertex was replaced begins with the bytes that keep writes for the path with that vertex; then come zeros up to the old
+-- end; and past both the store is as it was. Here m is the new outline's length, and z how many zeros there are.
+abbrev pub ReplacedIsKept : Type 0
+ReplacedIsKept = (s : List ℕ) (k : ℕ) (v : Vertex) (room : List ℕ) (m z : ℕ) → replaceReply s k v ≡ (0, m) → z ≡ lengthIn s - m → m ≤ length room
+    → (keepReply (pathNumbers (set (pathIn s) k v)) (gradeIn s) (length room) ≡ (0, m))
+    × (take m (replaceOut s k v) ≡ take m (keepOut (pathNumbers (set (pathIn s) k v)) (gradeIn s) room))
+    × (take z (drop m (replaceOut s k v)) ≡ replicate z 0)
+    × (drop (m + z) (replaceOut s k v) ≡ drop (m + z) s)
+
+-- In a sound store the bytes that its own counts mark off as body i are those of body i of its path; the closing body is body n.
+abbrev pub BodyBytes : Type 0
+BodyBytes = (s : List ℕ) (i : ℕ) → Within (gradeIn s) (pathIn s) → soundOf s ≡ true → i ≤ length (pathIn s) → bodyBytesIn s i ≡ bytesOf (bodyWords (getD (bodiesIn s) i []))
+
+-- Demand 3 over the bytes of the store before and after: those of each body before k stay as they were; and so do those of each body after j, the
+-- closing one too, unless j is the last vertex.
+abbrev pub BytesKept : Type 0
+BytesKept = (s : List ℕ) (k : ℕ) (v : Vertex) → replaceReply s k v .0 ≡ 0
+    → ((i : ℕ) → i < k → bodyBytesIn (replaceOut s k v) i ≡ bodyBytesIn s i)
+    × (reachOf (pathIn s) k + 1 < length (pathIn s) → (i : ℕ) → reachOf (pathIn s) k < i → i ≤ length (pathIn s) → bodyBytesIn (replaceOut s k v) i ≡ bodyBytesIn s i)

@@ -1,8 +1,12 @@
 // The kept outline, and what the four calls answer: draw, keep, read, replace.
+pub mod check;
+pub mod compare;
 pub mod drawing;
 pub mod filling;
 pub mod keeping;
 pub mod path_rows;
+pub mod reading;
+pub mod replacing;
 pub mod rewriting;
 pub mod words;
 

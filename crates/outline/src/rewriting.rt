@@ -35,7 +35,14 @@ fn count(path: &[i32], n: usize, grade: u32) -> usize
 }
 
 // The outline of a path over lent bytes in which an old one ends at `old`.
-pub fn rewrite(path: &[i32], n: usize, grade: u32, old: usize, own: &mut [i32], s: &mut [u8]) -> Kept
+pub fn rewrite(
+    path: &[i32],
+    n: usize,
+    grade: u32,
+    old: usize,
+    own: &mut [i32],
+    s: &mut [u8],
+) -> Kept
     requires { ⌜ Fits (now path) grade n × (old ≤ length (now s)) × (36908 ≤ length (now own)) ⌝ }
     ensures { λ r. ⌜ Rewrites (now (s .entry)) (outlineBytes grade (pathOf (now (path .entry)))) old r (now (s .exit)) ⌝ }
 {

@@ -1,0 +1,158 @@
+// The rows that read and replace share: is this store an outline, and is it sound?
+use crate::Refusal;
+use crate::compare::Compared;
+use crate::compare::compare;
+use crate::words::same_word;
+use crate::words::signed;
+use crate::words::word_at;
+use variable_stroke::paths::first_outside;
+ghost use mathlib.Core.Path.{_≡_};
+ghost use mathlib.Core.List.{[], _∷_};
+ghost use Prim.Native.Nat.{_+_, _*_, _≤_};
+ghost use lib.ListN.{length, take, drop};
+ghost use Rattle.runs.specs.Runs.{Runs, put};
+ghost use Rattle.variable_stroke.specs.Paths.{pathOf, vertexNumbers, pathNumbers};
+ghost use Rattle.outline.specs.Words.{outlineBytes};
+ghost use Rattle.outline.specs.Stores.{wordsIn, firstDiffering};
+ghost use Rattle.outline.specs.Compares.{Meets};
+ghost use Rattle.outline.specs.StoreChecks.{HeadSays, Head, shownIn, shownPath, shownAt, RestSays, StoreSays};
+
+// What a store's header says: grade, vertices and edges.
+pub struct Header {
+    pub grade: u32,
+    pub n: usize,
+    pub m: usize,
+}
+
+// What the rows of a store came to: its header, or why it is refused.
+pub enum Checked {
+    Holds(Header),
+    Refused(Refusal),
+}
+
+// The rows of the header.
+pub fn head_rows(s: &[u8]) -> Checked
+    ensures { λ r. ⌜ HeadSays (now (s .entry)) r ⌝ }
+{
+    if s.len() < 24 {
+        return Checked::Refused(Refusal::NotOutline);
+    }
+    if word_at(s, 0) != 1 {
+        return Checked::Refused(Refusal::NotOutline);
+    }
+    let kind = word_at(s, 1);
+    if kind != 0 {
+        return Checked::Refused(Refusal::Kind(kind));
+    }
+    let grade = word_at(s, 2);
+    if grade < 1 {
+        return Checked::Refused(Refusal::Grade(grade));
+    }
+    if 8 < grade {
+        return Checked::Refused(Refusal::Grade(grade));
+    }
+    let n = word_at(s, 3) as usize;
+    if 4096 < n {
+        return Checked::Refused(Refusal::TooMany(n));
+    }
+    let m = word_at(s, 4) as usize;
+    if s.len() < 24 + 16 * n + 16 * m {
+        return Checked::Refused(Refusal::NotOutline);
+    }
+    let h = Header {
+        grade: grade,
+        n: n,
+        m: m,
+    };
+    Checked::Holds(h)
+}
+
+// The k-th vertex of a store as three numbers.
+fn show_vertex(s: &[u8], k: usize, out: &mut [i32])
+    requires { ⌜ (36 + 16 * k ≤ length (now s)) × (3 * k + 3 ≤ length (now out)) ⌝ }
+    ensures { λ _. ⌜ Runs put vertexNumbers (now (out .entry)) (3 * k) (shownAt (now (s .entry)) k ∷ []) (now (out .exit)) (3 * k + 3) ⌝ }
+{
+    let x = signed(word_at(s, 5 + 4 * k));
+    let y = signed(word_at(s, 6 + 4 * k));
+    let radius = signed(word_at(s, 7 + 4 * k));
+    let at = 3 * k;
+    out[at] = x;
+    out[at + 1] = y;
+    out[at + 2] = radius;
+}
+
+// The vertices of a store as numbers, three a vertex.
+pub fn show_path(s: &[u8], n: usize, out: &mut [i32])
+    requires { ⌜ (24 + 16 * n ≤ length (now s)) × (3 * n ≤ length (now out)) ⌝ }
+    ensures { λ _. ⌜ Runs put vertexNumbers (now (out .entry)) 0 (shownIn n (drop 5 (wordsIn (now (s .entry))))) (now (out .exit)) (3 * n) ⌝ }
+{
+    let mut k: usize = 0;
+    while k < n {
+        show_vertex(s, k, out);
+        k += 1;
+    }
+}
+
+// The first byte in which the store differs from the outline of the path, or the outline's length.
+fn first_difference(path: &[i32], s: &[u8], grade: u32, n: usize, c: Compared) -> usize
+    requires { ⌜ (n ≡ length (pathOf (now path))) × (n ≤ 4096) × Meets (now s) grade (pathOf (now path)) c ⌝ }
+    ensures { λ r. ⌜ r ≡ firstDiffering (now (s .entry)) (outlineBytes grade (pathOf (now (path .entry)))) ⌝ }
+{
+    let base = 24 + 16 * n;
+    let m = (c.end - base) / 16;
+    let a = same_word(s, 0, 0, 1);
+    let b = same_word(s, a, 4, 0);
+    let d = same_word(s, b, 8, grade);
+    let e = same_word(s, d, 12, n as u32);
+    let f = same_word(s, e, 16, m as u32);
+    if f < 20 {
+        return f;
+    }
+    if c.table < base {
+        return c.table;
+    }
+    c.bodies
+}
+
+// The rows past the header, over the store's vertices as numbers.
+fn check_shown(path: &[i32], s: &[u8], h: Header, own: &mut [i32]) -> Checked
+    requires { ⌜ Head (now s) h × (pathOf (now path) ≡ shownPath (now s)) × (36908 ≤ length (now own)) ⌝ }
+    ensures { λ r. ⌜ RestSays (now (s .entry)) r ⌝ }
+{
+    let n = h.n;
+    let grade = h.grade;
+    let bad = first_outside(path, n);
+    if bad < n {
+        return Checked::Refused(Refusal::Outside(bad));
+    }
+    let c = compare(path, n, grade, own, s);
+    let d = first_difference(path, s, grade, n, c);
+    if d < c.end {
+        return Checked::Refused(Refusal::NotSound(d));
+    }
+    Checked::Holds(h)
+}
+
+// The rows past the header. The vertices are left in `path`.
+fn check_rest(s: &[u8], h: Header, path: &mut [i32], own: &mut [i32]) -> Checked
+    requires { ⌜ Head (now s) h × (12288 ≤ length (now path)) × (36908 ≤ length (now own)) ⌝ }
+    ensures says { λ r. ⌜ RestSays (now (s .entry)) r ⌝ }
+    ensures path { λ r. ⌜ take (3 * h .n) (now (path .exit)) ≡ pathNumbers (shownPath (now (s .entry))) ⌝ }
+{
+    let n = h.n;
+    show_path(s, n, path);
+    let e = 3 * n;
+    check_shown(&path[0..e], s, h, own)
+}
+
+// Every row that the calls on a store share. The vertices of a store that holds are left at the front of `path`.
+pub fn check(s: &[u8], path: &mut [i32], own: &mut [i32]) -> Checked
+    requires { ⌜ (12288 ≤ length (now path)) × (36908 ≤ length (now own)) ⌝ }
+    ensures { λ r. ⌜ StoreSays (now (s .entry)) (now (path .exit)) r ⌝ }
+{
+    let c = head_rows(s);
+    match c {
+        Checked::Refused(r) => Checked::Refused(r),
+        Checked::Holds(h) => check_rest(s, h, path, own),
+    }
+}
