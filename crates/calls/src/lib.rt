@@ -1,0 +1,41 @@
+// The calls with room of their own: a path's edges, its kept outline, the path of an outline, and another vertex in one.
+use variable_stroke::Vertex;
+ghost use Rattle.outline.specs.Answers.{Draws, Keeps, Reads, Replaces};
+
+// Draws a path's edges into lent numbers, four an edge.
+pub fn draw(path: &[i32], grade: u32, out: &mut [i32]) -> outline::Drawn
+    ensures { λ r. ⌜ Draws (now (path .entry)) grade (now (out .entry)) r (now (out .exit)) ⌝ }
+{
+    outline::drawing::draw(path, grade, out)
+}
+
+// Keeps a path's outline as bytes.
+pub fn keep(path: &[i32], grade: u32, out: &mut [u8]) -> outline::Kept
+    ensures { λ r. ⌜ Keeps (now (path .entry)) grade (now (out .entry)) r (now (out .exit)) ⌝ }
+{
+    let mut own = [0i32; 36908];
+    outline::keeping::keep_with(path, grade, &mut own, out)
+}
+
+// Reads the path of a sound outline into lent numbers, three a vertex.
+pub fn read(store: &[u8], out: &mut [i32]) -> outline::Read
+    ensures { λ r. ⌜ Reads (now (store .entry)) (now (out .entry)) r (now (out .exit)) ⌝ }
+{
+    let mut path = [0i32; 12288];
+    let mut own = [0i32; 36908];
+    outline::reading::read_with(store, out, &mut path, &mut own)
+}
+
+// Replaces a vertex of a sound outline, in place.
+pub fn replace(store: &mut [u8], index: usize, x: i32, y: i32, radius: i32) -> outline::Replaced
+    ensures { λ r. ⌜ Replaces (now (store .entry)) index (record { x = x; y = y; radius = radius }) r (now (store .exit)) ⌝ }
+{
+    let mut path = [0i32; 12288];
+    let mut own = [0i32; 36908];
+    let v = Vertex {
+        x: x as i64,
+        y: y as i64,
+        radius: radius as i64,
+    };
+    outline::replacing::replace_with(store, index, v, &mut path, &mut own)
+}
