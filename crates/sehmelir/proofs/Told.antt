@@ -1,8 +1,13 @@
 -- A reply from what the code has put into it. Assumes nothing.
 use mathlib.Core.Path.{_≡_, ap, _∙_}
+use mathlib.Core.List.{List}
 use Prim.Native.Nat.{ℕ}
+use lib.IntN.{ℤ}
+use Rattle.variable_stroke.specs.declared.Vertex.{Vertex}
 use Rattle.outline.specs.Replies.{Reply as Answer}
-use Rattle.sehmelir.specs.Boundary.{Replies}
+use Rattle.outline.specs.Answers.{replyOfReplaced, Replaces}
+use Rattle.outline.specs.declared.Replaced.{Replaced}
+use Rattle.sehmelir.specs.Boundary.{Replies, ReplaceReplies}
 use Rattle.sehmelir.specs.declared.Reply.{Reply}
 
 pub told : {p : Reply} {a n : ℕ} {t : Answer} → (a, n) ≡ t → (p .reply ≡ a) × (p .number ≡ n) × (p .grade ≡ 0) → Replies p t 0
@@ -10,3 +15,12 @@ told e h = record { reply = h .0 ∙ ap (λ (x : Answer). x .0) e; number = h .1
 
 pub told-as : {p : Reply} {s t : Answer} {g : ℕ} → s ≡ t → Replies p s g → Replies p t g
 told-as e h = rw e at h
+
+pub graded-as : {p : Reply} {s t : Answer} {g h : ℕ} → s ≡ t → g ≡ h → Replies p s g → Replies p t h
+graded-as e f r = rw (e, f) at r
+
+-- a vertex by its three numbers
+pub replaced-told : {s s₁ : List ℕ} {k : ℕ} {v : Vertex} {a : Replaced} {p : Reply} {x y radius : ℤ} → v .x ≡ x → v .y ≡ y → v .radius ≡ radius → Replaces s k v a s₁ → Replies p (replyOfReplaced a) 0 → ReplaceReplies s k (record { x = x; y = y; radius = radius }) p s₁
+replaced-told {s} {s₁} {k} {v} {a} {p} ex ey er h q =
+    let r : ReplaceReplies s k v p s₁ = record { replies = told-as (h .reply) q; store = h .store } in
+    rw (ex, ey, er) at r

@@ -4,7 +4,8 @@ use mathlib.Core.List.{List}
 use Prim.Native.Nat.{ℕ}
 use lib.IntN.{ℤ}
 use lib.ListN.{length}
-use Rattle.outline.specs.Replies.{Reply as Answer, drawReply, drawOut}
+use Rattle.variable_stroke.specs.declared.Vertex.{Vertex}
+use Rattle.outline.specs.Replies.{Reply as Answer, drawReply, drawOut, keepReply, keepOut, readReply, readGrade, readOut, replaceReply, replaceOut}
 use Rattle.sehmelir.specs.declared.Reply.{Reply}
 
 -- document 01's reply and number, and a grade beside them
@@ -17,3 +18,18 @@ pub record Replies (r : Reply) (told : Answer) (g : ℕ) : Type 0 where
 pub record DrawReplies (path : List ℤ) (grade : ℕ) (out₀ : List ℤ) (r : Reply) (out₁ : List ℤ) : Type 0 where
   pub replies : Replies r (drawReply path grade (length out₀)) 0
   pub out : out₁ ≡ drawOut path grade out₀
+
+-- keep: reply, number and every lent byte afterwards
+pub record KeepReplies (path : List ℤ) (grade : ℕ) (out₀ : List ℕ) (r : Reply) (out₁ : List ℕ) : Type 0 where
+  pub replies : Replies r (keepReply path grade (length out₀)) 0
+  pub out : out₁ ≡ keepOut path grade out₀
+
+-- read: reply, number, grade and every lent number afterwards
+pub record ReadReplies (store : List ℕ) (out₀ : List ℤ) (r : Reply) (out₁ : List ℤ) : Type 0 where
+  pub replies : Replies r (readReply store (length out₀)) (readGrade store (length out₀))
+  pub out : out₁ ≡ readOut store out₀
+
+-- replace: reply, number and every byte of the store afterwards
+pub record ReplaceReplies (store₀ : List ℕ) (index : ℕ) (v : Vertex) (r : Reply) (store₁ : List ℕ) : Type 0 where
+  pub replies : Replies r (replaceReply store₀ index v) 0
+  pub store : store₁ ≡ replaceOut store₀ index v

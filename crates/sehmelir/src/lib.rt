@@ -1,9 +1,12 @@
 // The calls for C and Rust: numbers and slices only.
 use outline::Drawn;
+use outline::Kept;
+use outline::Read;
 use outline::Refusal;
+use outline::Replaced;
 ghost use mathlib.Core.Path.{_≡_};
-ghost use Rattle.outline.specs.Answers.{refusalOf, replyOfDrawn};
-ghost use Rattle.sehmelir.specs.Boundary.{Replies, DrawReplies};
+ghost use Rattle.outline.specs.Answers.{refusalOf, replyOfDrawn, replyOfKept, replyOfRead, gradeOfRead, replyOfReplaced};
+ghost use Rattle.sehmelir.specs.Boundary.{Replies, DrawReplies, KeepReplies, ReadReplies, ReplaceReplies};
 
 // Document 01's reply, the grade beside it (of a read outline, else 0), and the number with it.
 #[repr(C)]
@@ -51,10 +54,74 @@ fn drawn(answer: Drawn) -> Reply
     }
 }
 
+// What keeping came to, as a reply.
+fn kept(answer: Kept) -> Reply
+    ensures { λ p. ⌜ Replies p (replyOfKept answer) 0 ⌝ }
+{
+    match answer {
+        Kept::Bytes(n) => plain(0, n as u64),
+        Kept::Refused(r) => refusal(r),
+    }
+}
+
+// What reading came to, as a reply.
+fn path_read(answer: Read) -> Reply
+    ensures { λ p. ⌜ Replies p (replyOfRead answer) (gradeOfRead answer) ⌝ }
+{
+    match answer {
+        Read::Vertices(n, grade) => Reply {
+            reply: 0,
+            grade,
+            number: n as u64,
+        },
+        Read::Refused(r) => refusal(r),
+    }
+}
+
+// What replacing came to, as a reply.
+fn replaced(answer: Replaced) -> Reply
+    ensures { λ p. ⌜ Replies p (replyOfReplaced answer) 0 ⌝ }
+{
+    match answer {
+        Replaced::Bytes(n) => plain(0, n as u64),
+        Replaced::Refused(r) => refusal(r),
+    }
+}
+
 // Draws a path's edges into lent numbers, four an edge.
 #[no_mangle]
 pub extern "C" fn sehmelir_draw(path: &[i32], grade: u32, out: &mut [i32]) -> Reply
     ensures { λ p. ⌜ DrawReplies (now (path .entry)) grade (now (out .entry)) p (now (out .exit)) ⌝ }
 {
-    drawn(outline::drawing::draw(path, grade, out))
+    drawn(calls::draw(path, grade, out))
+}
+
+// Keeps a path's outline as bytes.
+#[no_mangle]
+pub extern "C" fn sehmelir_keep(path: &[i32], grade: u32, out: &mut [u8]) -> Reply
+    ensures { λ p. ⌜ KeepReplies (now (path .entry)) grade (now (out .entry)) p (now (out .exit)) ⌝ }
+{
+    kept(calls::keep(path, grade, out))
+}
+
+// Reads the path of a sound outline into lent numbers, three a vertex.
+#[no_mangle]
+pub extern "C" fn sehmelir_read(store: &[u8], out: &mut [i32]) -> Reply
+    ensures { λ p. ⌜ ReadReplies (now (store .entry)) (now (out .entry)) p (now (out .exit)) ⌝ }
+{
+    path_read(calls::read(store, out))
+}
+
+// Replaces a vertex of a sound outline, in place.
+#[no_mangle]
+pub extern "C" fn sehmelir_replace(
+    store: &mut [u8],
+    index: usize,
+    x: i32,
+    y: i32,
+    radius: i32,
+) -> Reply
+    ensures { λ p. ⌜ ReplaceReplies (now (store .entry)) index (record { x = x; y = y; radius = radius }) p (now (store .exit)) ⌝ }
+{
+    replaced(calls::replace(store, index, x, y, radius))
 }
