@@ -1,14 +1,13 @@
 -- Another vertex in the path of a store: among its numbers, within the limits, and what replace then replies. Assumes nothing.
 use mathlib.Core.Path.{_≡_, refl, sym, ap, _∙_}
-use mathlib.Core.Bool.{true, false, not}
+use mathlib.Core.Bool.{true, false}
 use mathlib.Core.List.{List, [], _∷_, _++_}
-use Prim.Native.Nat.{ℕ, zero, suc, _+_, _-_, _*_, _/_, _%_, _^_, _≤_, _<_}
+use Prim.Native.Nat.{ℕ, zero, suc, _+_, _-_, _*_, _/_, _^_, _≤_, _<_}
 use native.Mathlib.Numerals.{add-one, add-two}
 use native.Mathlib.Omega.{arith}
 use borrow.Author.Tests.{le-leb, lt-leb}
-use lib.Dec.{leb}
 use lib.IntN.{ℤ}
-use lib.ListN.{length, set, take, drop, replicate, length-set, length-take, length-drop, take-append-drop}
+use lib.ListN.{length, set, take, drop, length-set, length-take, length-drop, take-append-drop}
 use lib.Seq.{take-at}
 use mir.Syntax.{w32}
 use mir.Val.{toZ, ofZ}
@@ -21,10 +20,9 @@ use Rattle.variable_stroke.specs.Bounds.{Inside}
 use Rattle.variable_stroke.specs.Limits.{allowedOf, firstOutside}
 use Rattle.variable_stroke.specs.Paths.{pathOf, vertexNumbers, pathNumbers}
 use Rattle.variable_stroke.specs.declared.Vertex.{Vertex}
-use Rattle.variable_stroke.proofs.PathWalk.{path-count}
 use Rattle.outline.specs.Words.{outlineBytes}
-use Rattle.outline.specs.Stores.{wordsIn, wordAt, gradeIn, countIn, lengthIn, entriesIn, pathIn}
-use Rattle.outline.specs.Replies.{Reply, Row, firstRow, indexRow, newRow, roomRow, storeRows, written, replacedOf, replaceReply, replaceOut}
+use Rattle.outline.specs.Stores.{wordsIn, countIn, lengthIn, pathIn}
+use Rattle.outline.specs.Replies.{firstRow, indexRow, newRow, roomRow, storeRows, replacedOf, replaceReply, replaceOut}
 use Rattle.outline.specs.Answers.{refusalOf, replyOfKept, replyOfReplaced, Replaces}
 use Rattle.outline.specs.Theorems.{Within}
 use Rattle.outline.specs.Checks.{Fits}
@@ -60,7 +58,7 @@ unfolding spread vertexNumbers
 run-one v p = p .out
 
 -- p are numbers whose first 3 n are those of the vertices vs
-pub numbers-changed : (vs : List Vertex) (k : ℕ) (v : Vertex) (p : List ℤ) {p₁ : List ℤ} {n e w : ℕ} → n ≡ length vs → take (3 * n) p ≡ pathNumbers vs → k < n
+numbers-changed : (vs : List Vertex) (k : ℕ) (v : Vertex) (p : List ℤ) {p₁ : List ℤ} {n e w : ℕ} → n ≡ length vs → take (3 * n) p ≡ pathNumbers vs → k < n
     → Runs put vertexNumbers p (3 * k) (v ∷ []) p₁ w → e ≡ 3 * n → take e p₁ ≡ pathNumbers (set vs k v)
 numbers-changed vs k v p {p₁} {n} {e} en f h q ee =
     let a : p ≡ pathNumbers vs ++ drop (3 * n) p = sym (take-append-drop (3 * n) p) ∙ ap (λ (l : List ℤ). l ++ drop (3 * n) p) f in
@@ -98,12 +96,12 @@ numbers-fit g vs p {n} e en h =
 -- ---- the rows of a change
 
 module _ {s : List ℕ} {p : List ℤ} {g n m : ℕ} (h : Known s p g n m) where
-  pub known-count : length (pathIn s) ≡ n
+  known-count : length (pathIn s) ≡ n
   unfolding pathIn lengthIn
   known-count =
       entries-full (countIn s) (drop 5 (wordsIn s)) (omega (arith, length-drop 5 (wordsIn s), words-count s (5 + 4 * countIn s) (omega (arith, h .long)))) ∙ sym (h .vertices)
 
-  pub known-long : 24 + 16 * n + 16 * m ≡ lengthIn s
+  known-long : 24 + 16 * n + 16 * m ≡ lengthIn s
   unfolding lengthIn
   known-long = omega (arith, h .vertices, h .edges)
 

@@ -1,7 +1,7 @@
 -- An outline's words part by part: numbers, a table entry by entry, bodies edge by edge. Assumes nothing.
 use mathlib.Core.Path.{_≡_, refl, sym, ap, _∙_}
 use mathlib.Core.List.{List, [], _∷_, _++_}
-use Prim.Native.Nat.{ℕ, zero, suc, _+_, _*_, _^_, _≤_, _<_}
+use Prim.Native.Nat.{ℕ, _+_, _*_, _^_, _≤_, _<_}
 use native.Mathlib.Omega.{arith}
 use native.Mathlib.Numerals.{add-one}
 use lib.IntN.{ℤ, pos}
@@ -14,7 +14,6 @@ use Rattle.whole.specs.Sizes.{Size}
 use Rattle.whole.proofs.Sizes.{size-fits}
 use Rattle.runs.specs.Runs.{spread, Runs, Room}
 use Rattle.runs.proofs.Laws.{spread-append, runs-as, runs-then}
-use Rattle.plane.specs.Directions.{stepOf}
 use Rattle.plane.proofs.Products.{bits, back, size-back}
 use Rattle.plane.specs.declared.Vector.{Vector}
 use Rattle.arc.specs.Edges.{edgeNumbers}
@@ -23,14 +22,14 @@ use Rattle.arc.specs.declared.Edge.{Edge}
 use Rattle.variable_stroke.specs.Bounds.{Inside, AroundWalk}
 use Rattle.variable_stroke.specs.Limits.{firstOutside}
 use Rattle.variable_stroke.specs.Chains.{emittedOf, nextOf, startOf}
-use Rattle.variable_stroke.specs.Paths.{none, bodiesFrom, bodiesAt, bodiesOf, joined, edgesOf}
+use Rattle.variable_stroke.specs.Paths.{none, bodiesFrom, bodiesAt, joined}
 use Rattle.variable_stroke.specs.declared.Vertex.{Vertex}
 use Rattle.variable_stroke.specs.declared.Walk.{Walk}
 use Rattle.variable_stroke.proofs.Allowed.{inside-of}
 use Rattle.variable_stroke.proofs.Contacts.{section-around}
 use Rattle.variable_stroke.proofs.ChainSteps.{next-around}
 use Rattle.variable_stroke.proofs.PathWalk.{allowed-at, edges-none, edges-start, edges-step, edges-end}
-use Rattle.outline.specs.Words.{wordOf, wordsOf, fourBytes, bytesOf, headerOf, entryOf, tableOf, bodyWords, wordsWith, outlineWords}
+use Rattle.outline.specs.Words.{wordOf, wordsOf, fourBytes, bytesOf, headerOf, entryOf, tableOf, bodyWords}
 use Rattle.outline.specs.Fills.{tableFrom, wordsFrom, closeOf}
 use Rattle.outline.proofs.ReadBack.{bytes-length}
 
@@ -82,10 +81,6 @@ entry-room v count h = h .fits
 pub room-entry : {at : ℕ} (v : Vertex) (count : ℕ) → at + 16 < 2 ^ 64 → Room fourBytes at (entryOf v count)
 unfolding entryOf spread fourBytes
 room-entry v count h = record { fits = h }
-
-pub entry-long : (v : Vertex) (count : ℕ) → length (spread fourBytes (entryOf v count)) ≡ 16
-unfolding entryOf spread fourBytes
-entry-long v count = refl
 
 -- a coordinate within the limits, as the code hands it on
 pub coordinate-fits : {z : ℤ} → Size (2 ^ 28) z → Size (2 ^ 31) (bits z)

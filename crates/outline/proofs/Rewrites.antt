@@ -1,11 +1,11 @@
 -- An outline over lent bytes: zeros byte by byte, and the two outcomes of the room's test. Assumes nothing.
 use mathlib.Core.Path.{_≡_, refl, sym, ap, _∙_}
-use mathlib.Core.List.{List, [], _∷_, _++_}
+use mathlib.Core.List.{List, _++_}
 use Prim.Native.Nat.{ℕ, suc, _+_, _-_, _*_, _≤_, _<_}
 use native.Mathlib.Nat.{zero-add}
 use native.Mathlib.Numerals.{add-one}
 use native.Mathlib.Omega.{arith}
-use lib.ListN.{length, set, drop, replicate, length-append, length-replicate, length-set}
+use lib.ListN.{length, set, replicate, length-append, length-replicate, length-set}
 use Rattle.runs.specs.Runs.{spread, over, Runs, put}
 use Rattle.runs.proofs.Laws.{over-append}
 use Rattle.runs.proofs.Written.{over-whole}

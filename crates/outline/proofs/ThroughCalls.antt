@@ -3,23 +3,22 @@
 use mathlib.Core.Path.{_≡_, refl, sym, ap, _∙_}
 use mathlib.Core.Bool.{Bool, true, false, true≢false}
 use mathlib.Core.List.{List, [], _∷_, _++_, append-assoc, append-nil}
-use Prim.Native.Nat.{ℕ, zero, suc, _+_, _-_, _*_, _/_, _%_, _≤_, _<_}
+use Prim.Native.Nat.{ℕ, _+_, _-_, _*_, _%_, _≤_, _<_}
 use native.Mathlib.Nat.{le-antisymm}
 use native.Mathlib.Omega.{arith}
 use borrow.Author.Tests.{eqb-true, ltb-false, leb-false, not-false}
 use lib.Dec.{eqb}
 use lib.IntN.{ℤ}
 use lib.ListN.{length, getD, take, drop, set, replicate, take-append-drop, length-append, length-replicate, length-set}
-use lib.Seq.{getD-take, getD-drop, take-at, drop-at, drop-append-add}
+use lib.Seq.{getD-take, getD-drop, take-at, drop-at}
 use Rattle.runs.specs.Runs.{spread}
-use Rattle.variable_stroke.specs.Limits.{firstOutside}
 use Rattle.variable_stroke.specs.Local.{reachOf}
-use Rattle.variable_stroke.specs.Paths.{pathOf, vertexNumbers, pathNumbers, bodiesOf}
+use Rattle.variable_stroke.specs.Paths.{pathOf, vertexNumbers, pathNumbers}
 use Rattle.variable_stroke.specs.declared.Vertex.{Vertex}
 use Rattle.arc.specs.declared.Edge.{Edge}
 use Rattle.outline.specs.Words.{bytesOf, bodyWords, outlineBytes}
 use Rattle.outline.specs.Stores.{gradeIn, lengthIn, pathIn, dueIn, bodiesIn, sameBytes, soundOf, bodyBytesIn}
-use Rattle.outline.specs.Replies.{Reply, Row, firstRow, triplesRow, gradeRow, countRow, outsideRow, roomRow, indexRow, pathRows, storeRows, written, keepReply, keepOut, readReply, readGrade, readOut, replacedOf, replaceReply, replaceOut}
+use Rattle.outline.specs.Replies.{Reply, Row, firstRow, triplesRow, gradeRow, countRow, outsideRow, roomRow, indexRow, pathRows, storeRows, written, keepReply, keepOut, replacedOf, replaceReply, replaceOut}
 use Rattle.outline.specs.Theorems.{Within, KeepRead, ReplacedIsKept, BodyBytes, BytesKept}
 use Rattle.outline.proofs.ReadBack.{NoneHold, first-skip, kept-is-read, numbers-count}
 use Rattle.outline.proofs.Changed.{first-none, either, outside-most, replace-none, within-store, within-set, sound-store, out-is, replaced-is-sound, store-kept}

@@ -1,5 +1,5 @@
 -- A whole outline: the header, then table and bodies side by side, from the first entry on. Assumes nothing.
-use mathlib.Core.Path.{_≡_, refl, sym, ap, _∙_}
+use mathlib.Core.Path.{_≡_, refl, ap}
 use mathlib.Core.List.{List, [], _∷_, _++_}
 use Prim.Native.Nat.{ℕ, _+_, _*_, _^_, _≤_, _<_}
 use native.Mathlib.Omega.{arith}
@@ -9,13 +9,13 @@ use Rattle.runs.proofs.Laws.{runs-to, runs-then}
 use Rattle.plane.specs.Directions.{stepOf}
 use Rattle.plane.specs.declared.Vector.{Vector}
 use Rattle.variable_stroke.specs.Chains.{startOf}
-use Rattle.variable_stroke.specs.Paths.{none, bodiesOf, joined, edgesOf}
+use Rattle.variable_stroke.specs.Paths.{none, bodiesOf, edgesOf}
 use Rattle.variable_stroke.specs.declared.Vertex.{Vertex}
 use Rattle.variable_stroke.specs.declared.Walk.{Walk}
 use Rattle.outline.specs.Words.{fourBytes, headerOf, entryOf, tableOf, bodyWords, wordsWith, outlineWords}
 use Rattle.outline.specs.Fills.{tableFrom, wordsFrom, Apart, Both}
 use Rattle.outline.proofs.ReadBack.{bodies-count, table-length, numbers-length, edges-few}
-use Rattle.outline.proofs.Parts.{four-each, entry-long, table-none, table-start, bodies-none, bodies-start}
+use Rattle.outline.proofs.Parts.{four-each, table-none, table-start, bodies-none, bodies-start}
 use Rattle.outline.proofs.TwoRuns.{longer, both-as, both-first, both-one}
 
 -- ---- how long the parts are, in bytes

@@ -3,7 +3,6 @@ use crate::Kept;
 use crate::path_rows::PathCheck;
 use crate::path_rows::check_path;
 use crate::rewriting::rewrite;
-ghost use mathlib.Core.Path.{_≡_};
 ghost use Prim.Native.Nat.{_≤_};
 ghost use lib.ListN.{length};
 ghost use Rattle.outline.specs.Checks.{Fits};

@@ -1,5 +1,4 @@
 -- `outline::filling::fill` meets its contract: the first entry, then what is left of table and bodies; without vertices the closing count alone. Assumes nothing.
-use mathlib.Core.Path.{refl}
 use borrow.Author.Needs.{needs}
 use Prim.Native.Nat.{_<_}
 use native.Mathlib.Omega.{arith}

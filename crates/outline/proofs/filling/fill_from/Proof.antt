@@ -1,6 +1,6 @@
 -- `outline::filling::fill_from` meets its contract: what is left of table and bodies is filled in, step by step, by a walk that stays within the limits. Assumes nothing.
 use mathlib.Core.Path.{_≡_, refl}
-use Prim.Native.Nat.{_+_, _-_, _≤_, _<_}
+use Prim.Native.Nat.{_-_, _≤_, _<_}
 use native.Mathlib.Omega.{arith}
 use lib.ListN.{length}
 use Rattle.variable_stroke.specs.Bounds.{AroundWalk}

@@ -1,10 +1,8 @@
 -- `outline::filling::put_numbers` meets its contract: what is left of the numbers is put on, word by word. Assumes nothing.
-use mathlib.Core.List.{[], _∷_}
-use mathlib.Core.Path.{_≡_, sym, _∙_}
-use Prim.Native.Nat.{_+_, _-_, _≤_, _<_}
+use Prim.Native.Nat.{_-_, _≤_}
 use borrow.Author.Needs.{needs}
 use native.Mathlib.Omega.{arith}
-use lib.ListN.{length, getD, take, drop}
+use lib.ListN.{take, drop}
 use Rattle.runs.proofs.Laws.{runs-none, room-first, room-as}
 use Rattle.runs.proofs.Onward.{Onward, onward-start, onward-step, onward-as, onward-done, onward-room}
 use Rattle.runs.proofs.Written.{onward-length}
