@@ -2,7 +2,8 @@
  * Sehmelir: the boundary of a line that has a radius at each of its points.
  *
  * Link with libsehmelir.a, which `rt staticlib sehmelir` writes to
- * target/staticlib/ for x86-64 Linux. It needs no other library.
+ * target/staticlib/ for x86-64 Linux. Of other libraries it needs only C's
+ * memcpy and memset.
  *
  * A PATH is lent as 32-bit numbers, three for each vertex: x, y, radius.
  * x and y go from -268,435,456 to 268,435,456, the radius from 0 to
@@ -31,8 +32,9 @@
  *   is 0. Where there is nothing to lend, pass the address of any variable of
  *   the type, and 0:
  *
- *       int32_t none;
- *       struct sehmelir_reply r = sehmelir_draw(path, path_len, 1, &none, 0);
+ *       int32_t none = 0;
+ *       struct sehmelir_reply needed =
+ *           sehmelir_draw(path, path_len, 1, &none, 0);
  *
  *   Room of length 0 is allowed, and is the way to ask how much is needed:
  *   reply 5 comes with the number.

@@ -37,8 +37,8 @@ fn right_target() -> Result<(), String> {
 /// The directory that holds the archive: the one that the environment names,
 /// or the repository's own, where the archive is built if it is not there yet.
 fn archive_directory() -> Result<PathBuf, String> {
-    if let Some(directory) = env::var_os(DIRECTORY_VARIABLE) {
-        let directory = absolute(Path::new(&directory))?;
+    if let Some(named) = env::var_os(DIRECTORY_VARIABLE) {
+        let directory = Path::new(&named).canonicalize().unwrap_or(named.into());
         return match directory.join(ARCHIVE).is_file() {
             true => Ok(directory),
             false => Err(format!(
@@ -47,17 +47,13 @@ fn archive_directory() -> Result<PathBuf, String> {
             )),
         };
     }
-    let root = absolute(Path::new("../.."))?;
+    let root = Path::new("../..").canonicalize();
+    let root = root.map_err(|error| format!("The repository's root is not found: {error}."))?;
     let directory = root.join("target/staticlib");
     if !directory.join(ARCHIVE).is_file() {
         build(&root)?;
     }
     Ok(directory)
-}
-
-fn absolute(directory: &Path) -> Result<PathBuf, String> {
-    let found = directory.canonicalize();
-    found.map_err(|error| format!("{}: {error}.", directory.display()))
 }
 
 /// Builds the archive in the repository.

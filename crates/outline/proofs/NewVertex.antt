@@ -36,14 +36,10 @@ use Rattle.outline.proofs.Differing.{words-count, entries-full}
 use Rattle.outline.proofs.Changed.{within-changed}
 use Rattle.outline.proofs.Rows.{rows-append, refused-written}
 use Rattle.outline.proofs.PathChecks.{passes}
+use Rattle.outline.proofs.Shown.{path-back}
 use Rattle.outline.proofs.Parts.{radius-size}
 
 -- ---- a path and its numbers
-
-pub path-back : (vs : List Vertex) → pathOf (pathNumbers vs) ≡ vs
-unfolding pathOf pathNumbers vertexNumbers spread
-path-back [] = refl
-path-back (v ∷ vs) = ap (λ (us : List Vertex). v ∷ us) (path-back vs)
 
 numbers-set : (vs : List Vertex) (k : ℕ) (v : Vertex) (rest : List ℤ) → k < length vs → over put (pathNumbers vs ++ rest) (3 * k) (vertexNumbers v) ≡ pathNumbers (set vs k v) ++ rest
 unfolding over pathNumbers vertexNumbers spread

@@ -23,7 +23,8 @@ use Rattle.outline.specs.Theorems.{Within, KeepRead, ReplacedIsKept, Bod
 use Rattle.outline.proofs.ReadBack.{NoneHold, first-skip, kept-is-read, numbers-count}
 use Rattle.outline.proofs.Changed.{first-none, either, outside-most, replace-none, within-store, within-set, sound-store, out-is, replaced-is-sound, store-kept}
 use Rattle.outline.proofs.Rows.{rows-append, room-enough, done-written}
-use Rattle.outline.proofs.NewVertex.{path-back, numbers-fit}
+use Rattle.outline.proofs.Shown.{path-back}
+use Rattle.outline.proofs.NewVertex.{numbers-fit}
 use Rattle.outline.proofs.BodiesInBytes.{body-bytes}
 
 -- ---- the bytes of a body in a sound store

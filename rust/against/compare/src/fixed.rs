@@ -9,7 +9,10 @@ pub const HEAD: &str = "\
 # how this list was made; `run FOLDER list` prints it again.
 ";
 
-/// Document 01, \"Marked examples\".
+/// The line before a path that another rule for halves would draw otherwise.
+pub const HALF: &str = "# the next line rests on the rule for halves";
+
+/// Document 01, "Marked examples".
 const EXAMPLES: [&[[i32; 3]]; 11] = [
     &[],
     &[[0, 0, 10]],
@@ -40,6 +43,46 @@ const READINGS: [&[[i32; 3]]; 12] = [
     &[[0, 0, 5], [20, 0, 1], [40, 0, 1], [20, 0, 1], [20, 20, 5]],
 ];
 
+/// Small paths that one changed rule each would draw otherwise.
+const TELLING: [&[[i32; 3]]; 26] = [
+    &[[0, 0, 0], [0, 2, 1]],
+    &[[0, 0, 0], [0, 2, 2]],
+    &[[0, 0, 1], [0, 2, 2]],
+    &[[0, 0, 0], [0, 3, 2]],
+    &[[0, 0, 2], [0, 0, 3]],
+    &[[0, 0, 2], [1, 1, 2]],
+    &[[0, 0, 2], [0, 2, 3]],
+    &[[0, 0, 0], [0, 3, 2], [0, 0, 0]],
+    &[[0, 0, 0], [0, 3, 2], [0, 0, 1]],
+    &[[0, 0, 1], [0, 0, 1], [0, 2, 2]],
+    &[[0, 0, 1], [0, 2, 2], [0, 0, 1]],
+    &[[0, 0, 2], [0, 1, 2], [0, 0, 2]],
+    &[[0, 0, 2], [0, 1, 2], [0, 2, 2]],
+    &[[0, 0, 0], [1, 2, 2], [2, 0, 0]],
+    &[[0, 0, 0], [1, 2, 2], [-2, 3, 0]],
+    &[[0, 0, 1], [2, 2, 2], [0, 0, 1]],
+    &[[0, 0, 2], [0, 4, 2], [0, 2, 2]],
+    &[[0, 0, 3], [0, 4, 2], [0, 3, 2]],
+    &[[0, 0, 0], [1, 4, 4], [0, 0, 0]],
+    &[[0, -2, 2], [0, 0, 3], [3, 1, 1]],
+    &[[-1, 1, 2], [3, 3, 3], [1, 1, 1], [-2, 3, 2]],
+    &[[-1, 2, 2], [2, 0, 1], [-1, 4, 0], [-2, -1, 1], [1, -1, 2]],
+    &[[3, -4, 2], [-4, 2, 1], [-3, 1, 3], [0, 0, 0], [-1, 2, 1]],
+    &[[-2, 29, 2], [-1, 20, 11]],
+    &[[0, 1, 268435455], [0, 268435455, 2]],
+    &[
+        [0, 0, 1048576],
+        [28085, -56073, 1045539],
+        [56169, -112146, 1042502],
+    ],
+];
+
+/// Major arcs of very small angles: just compared, and just set aside.
+const NEARLY_CLOSED: [&[[i32; 3]]; 2] = [
+    &[[-101, 0, 10323], [0, 0, 10322], [305, 0, 10319]],
+    &[[-102, 0, 10352], [0, 0, 10353], [203, 0, 10355]],
+];
+
 /// Paths of each style in the list, and the seed they come from.
 const OF_EACH: usize = 20;
 const SEED: u64 = 2;
@@ -53,6 +96,8 @@ pub fn paths() -> Vec<(String, Vec<Path>)> {
     let mut all = vec![
         ("document 01's examples".to_string(), owned(&EXAMPLES)),
         ("the readings' paths".to_string(), owned(&READINGS)),
+        ("telling".to_string(), owned(&TELLING)),
+        ("nearly closed".to_string(), owned(&NEARLY_CLOSED)),
     ];
     for (place, style) in STYLES.iter().enumerate() {
         let numbers = (place as u64..).step_by(STYLES.len());

@@ -8,7 +8,7 @@ mod trial;
 
 use against::list::{edges_text, line, parse, path_text, Beside};
 use against::paths::{self, size, Path, SMALL_TEXT, STYLES};
-use against::runs::collapsed;
+use against::runs::{collapsed, collapsed_by_kind};
 use i_overlay::i_float::guess::{self, Between, Guesses, Halves, Inside, Normal, Root};
 use shrink::shrunk;
 use std::process::ExitCode;
@@ -57,7 +57,10 @@ fn compare(count: u64, seed: u64) -> ExitCode {
         compared.paths + aside.paths,
         paths::small_count(),
     );
-    println!();
+    println!(
+        "Compared: edges in order, each end-to-end run of arc edges made into one, and the kinds\n\
+         of all edges; plain at grades 1 to 8, the text at four step angles, widths odd and even.\n"
+    );
     println!("style       compared  disagree   set aside  of these disagree");
     let names = STYLES.iter().map(|style| style.name).chain(["small"]);
     let total = [("all", (&compared, &aside))];
@@ -75,33 +78,30 @@ fn compare(count: u64, seed: u64) -> ExitCode {
         "Set aside: paths with a Major arc whose rays have dot > 0 and |cross|·2^20 <= dot,\n\
          its ends not equal. There i_float's angle decides whether the arc is a full circle."
     );
-    println!("{:.1} s", start.elapsed().as_secs_f64());
-    let smallest = tally.found_aside.iter().take(1).cloned().collect();
-    tell(
-        "set aside, and the smallest of those that disagree",
-        &smallest,
-    );
-    tell("disagree", &tally.found);
+    println!("{:.0} s.", start.elapsed().as_secs_f64());
+    if let Some(path) = smallest(&tally.found_aside, true) {
+        tell("set aside and disagrees", &path, Setting::COARSE);
+    }
+    for (_, path, number) in &tally.found {
+        tell("disagrees", path, Setting::of(*number));
+    }
     if tally.found.is_empty() {
-        println!("\nno disagreement outside of what is set aside");
+        println!("No disagreement outside of what is set aside.");
         ExitCode::SUCCESS
     } else {
         ExitCode::FAILURE
     }
 }
 
-/// Paths with the edges of both sides.
-fn tell(title: &str, found: &Found) {
-    let mut text = Text::new();
-    for (_, path, number) in found {
-        let trial = Trial::new(&mut text, path, Setting::of(*number));
-        println!("\n{title}: {}", path_text(path));
-        println!("  plain: {}", edges_text(&collapsed(&trial.plain)));
-        println!("  text:  {}", edges_text(&collapsed(&trial.text)));
-        if trial.verdict() == Verdict::Kinds {
-            println!("  plain's kinds: {:?}", trial.plain);
-            println!("  text's kinds:  {:?}", trial.text);
-        }
+/// A path with the edges of both sides, and their kinds if only these differ.
+fn tell(title: &str, path: &[[i32; 3]], setting: Setting) {
+    let trial = Trial::new(&mut Text::new(), path, setting);
+    println!("  {title}: {}", path_text(path));
+    println!("    plain: {}", edges_text(&collapsed(&trial.plain)));
+    println!("    text:  {}", edges_text(&collapsed(&trial.text)));
+    if trial.verdict() == Verdict::Kinds {
+        println!("    plain: {:?}", collapsed_by_kind(&trial.plain));
+        println!("    text:  {:?}", collapsed_by_kind(&trial.text));
     }
 }
 
@@ -130,38 +130,34 @@ fn guesses(count: u64, seed: u64) -> ExitCode {
     ];
     for (name, guesses) in table {
         guess::set(guesses);
-        let tally = Tally::of(seed, count, 3);
+        let tally = Tally::of(seed, count, TRIED);
         let (compared, aside) = (sum(&tally.compared), sum(&tally.set_aside));
         println!(
             "{name}: {} of {} compared disagree; {} of {} set aside",
             compared.disagree, compared.paths, aside.disagree, aside.paths
         );
-        let path = smallest(&tally.found, false).map(|path| ("smallest", path));
-        let aside = || smallest(&tally.found_aside, true).map(|path| ("set aside", path));
-        if let Some((title, path)) = path.or_else(aside) {
-            let trial = Trial::new(&mut Text::new(), &path, Setting::COARSE);
-            println!("  {title}: {}", path_text(&path));
-            println!("    plain: {}", edges_text(&collapsed(&trial.plain)));
-            println!("    text:  {}", edges_text(&collapsed(&trial.text)));
+        if let Some(path) = smallest(&tally.found, false) {
+            tell("disagrees", &path, Setting::COARSE);
+        } else if let Some(path) = smallest(&tally.found_aside, true) {
+            tell("set aside and disagrees", &path, Setting::COARSE);
         }
     }
     ExitCode::SUCCESS
 }
+
+/// How many of the paths found are made smaller.
+const TRIED: usize = 20;
 
 /// The smallest path that can be had from those found.
 fn smallest(found: &Found, set_aside: bool) -> Option<Path> {
     let mut text = Text::new();
     let mut shows = |path: &[[i32; 3]]| {
         let trial = Trial::new(&mut text, path, Setting::COARSE);
-        trial.set_aside == set_aside && trial.verdict() == Verdict::Edges
+        trial.set_aside == set_aside && trial.verdict() != Verdict::Agree
     };
-    found
-        .iter()
-        .filter(|(_, path, _)| shows(path))
-        .map(|(_, path, _)| path.clone())
-        .collect::<Vec<Path>>()
-        .into_iter()
-        .map(|path| shrunk(&path, &mut shows))
+    let paths = found.iter().take(TRIED);
+    paths
+        .map(|(_, path, _)| shrunk(path, &mut shows))
         .min_by_key(|path| (size(path), path.clone()))
 }
 
@@ -177,10 +173,27 @@ fn list() -> ExitCode {
                 true => Beside::SetAside,
                 false => Beside::Edges(collapsed(&trial.text)),
             };
+            if !trial.set_aside && rests_on_halves(&mut text, &path) {
+                println!("{}", fixed::HALF);
+            }
             println!("{}", line(&path, &beside));
         }
     }
     ExitCode::SUCCESS
+}
+
+/// Whether another rule for halves would change the collapsed edges.
+fn rests_on_halves(text: &mut Text, path: &[[i32; 3]]) -> bool {
+    let mut edges = |halves| {
+        guess::set(Guesses {
+            halves,
+            ..Guesses::CHOSEN
+        });
+        collapsed(&Trial::new(text, path, Setting::COARSE).text)
+    };
+    let others = [Halves::Down, Halves::ToEven, Halves::ToOdd].map(&mut edges);
+    let chosen = edges(Guesses::CHOSEN.halves);
+    others.iter().any(|other| *other != chosen)
 }
 
 /// Prints all edges of a path: plain's at grade 1, the text's at its default

@@ -60,16 +60,16 @@ impl Maker {
             (MOST, 1000),
             (MOST, MOST),
         ];
-        let (side, radius) = self.random.pick(&scales);
+        let (side, most_radius) = self.random.pick(&scales);
         let mut path = Path::new();
         for _ in 0..self.random.below(most + 1) {
-            let [x, y, r] = self.within(side, radius);
+            let [x, y, radius] = self.within(side, most_radius);
             let vertex = match (path.last(), self.random.below(100)) {
-                (Some(&[x, y, _]), 0..8) => [x, y, r],
-                (Some(&[x, _, r]), 8..20) => [x, y, r],
-                (Some(&[_, y, _]), 20..28) => [x, y, r],
-                (_, 28..36) => [x, y, r % 2],
-                _ => [x, y, r],
+                (Some(&[x, y, _]), 0..8) => [x, y, radius],
+                (Some(&[x, _, radius]), 8..20) => [x, y, radius],
+                (Some(&[_, y, _]), 20..28) => [x, y, radius],
+                (_, 28..36) => [x, y, radius % 2],
+                _ => [x, y, radius],
             };
             path.push(vertex);
         }

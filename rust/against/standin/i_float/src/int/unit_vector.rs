@@ -34,12 +34,11 @@ impl<I: IntNumber> UnitIntVector<I> {
         self.y
     }
 
-    /// FORCED: the vector of this direction and of length `distance`, which
-    /// is exact along an axis.
+    /// FORCED: the vector of this direction and of length `distance`, or a
+    /// little less.
     ///
     /// GUESS: each component to the nearest, halves away from zero. It could
-    /// be cut, or round halves otherwise: that shows only in points inside
-    /// arcs.
+    /// be cut, or round halves otherwise. It decides only points inside arcs.
     pub fn scale(self, distance: I) -> IntVector<I> {
         let scaled = |component: I| {
             let product = component.into() * distance.into();

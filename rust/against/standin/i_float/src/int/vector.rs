@@ -35,13 +35,14 @@ impl<I: IntNumber> IntVector<I> {
 
     /// FORCED: nothing for the vector without length, else a direction of
     /// length at most 1 (arc/integer.rs: "input norms are <=1") and at least
-    /// 0.99; a unit vector of an axis stays exact, or `direction` would not
-    /// send every vector of an axis through it.
+    /// 0.99 (the same file on its inputs).
     ///
     /// GUESS: each component is the largest that is not too long, as in
-    /// document 01. A faster rule could leave it some units shorter, or off by
-    /// some angle; that decides the points inside arcs, and whether a Major
-    /// arc of a very small angle is a full circle.
+    /// document 01. A faster rule could leave it shorter, or off by some
+    /// angle: that the text sends every vector of an axis through a unit one
+    /// first (`direction` in math.rs) hints at it. It decides the points
+    /// inside arcs, and whether a Major arc of a very small angle is a full
+    /// circle.
     pub fn fast_normalize(self) -> Option<UnitIntVector<I>> {
         let (x, y) = (self.x.into(), self.y.into());
         let squared = (x * x + y * y) as u64;

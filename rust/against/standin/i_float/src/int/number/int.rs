@@ -2,18 +2,19 @@ use super::{uint::UIntNumber, wide_int::WideIntNumber};
 use std::fmt::Debug;
 
 /// A coordinate. FORCED: name, and the copying, comparing and printing that
-/// the text's own structs derive from it. OWN: `Into` and `TryFrom`.
-pub trait IntNumber: Copy + Debug + Ord + Into<i64> + TryFrom<i64> {
+/// the text's own structs derive from it. OWN: `Into`.
+pub trait IntNumber: Copy + Debug + Ord + Into<i64> {
     /// FORCED: twice the bits, signed. The text says (core/integer.rs) that
     /// two products of N-bit differences are below 2^(2N - 1) and so fit.
     type Wide: WideIntNumber<UInt = Self::WideUInt>;
 
     /// FORCED: twice the bits, unsigned. `tangent_offsets` shifts by half of
-    /// its leading zeros less one, and calls the product of two of them wider.
+    /// its leading zeros, less one: with more bits, what it shifts would not
+    /// fit in `Wide`.
     type WideUInt: UIntNumber;
 
-    /// FORCED: 16 for the branch that the text takes for `i16`. That it is a
-    /// `u32` is forced by its use in shifts of `Wide`.
+    /// FORCED: the number of bits. arc/integer.rs takes a branch of its own
+    /// for 16, and shifts `Wide` by what it computes from this number.
     const BITS: u32;
 
     /// FORCED.

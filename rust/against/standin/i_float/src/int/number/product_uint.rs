@@ -6,9 +6,10 @@ pub trait UIntProduct<U>: Sized {
     /// FORCED: the product, whole.
     fn multiply(a: U, b: U) -> Self;
 
-    /// FORCED: the nearest whole number, and that no sign is seen here, for
-    /// `mul_div` takes the sign apart and puts it back. So a rule for halves
-    /// that looks at the sign (up, down) cannot be.
+    /// FORCED: that no sign is seen here, for `mul_div` takes the signs apart
+    /// and puts them back. So a rule that looks at the sign, such as halves
+    /// always to the right, cannot be. As good as forced by its name: the
+    /// nearest whole number.
     ///
     /// GUESS: exact halves go up, and so away from zero once the sign is put
     /// back. They could go down (towards zero), to the even or to the odd

@@ -4,17 +4,9 @@ use std::fmt::Debug;
 use std::ops::{AddAssign, Mul, Shl, Sub};
 
 /// A number that holds squared lengths. FORCED: name and operators, with the
-/// meaning they have on Rust's own numbers. OWN: `Into` and `From`.
+/// meaning they have on Rust's own numbers.
 pub trait UIntNumber:
-    Copy
-    + Debug
-    + Ord
-    + From<u64>
-    + Into<u64>
-    + Sub<Output = Self>
-    + Mul<Output = Self>
-    + AddAssign
-    + Shl<u32, Output = Self>
+    Copy + Debug + Ord + Sub<Output = Self> + Mul<Output = Self> + AddAssign + Shl<u32, Output = Self>
 {
     /// FORCED: holds any product of two of these numbers.
     type Product: UIntProduct<Self>;

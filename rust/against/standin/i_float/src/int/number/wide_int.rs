@@ -4,8 +4,8 @@ use std::ops::{Add, Div, Mul, Neg, Shl, Sub};
 
 /// A number that holds products of coordinates. FORCED: name and operators,
 /// with the meaning they have on Rust's own numbers; division is reached only
-/// for an even or odd width of 0 or more, where every rounding towards zero or
-/// down is the same. OWN: `Into` and `From`.
+/// for half of a width of 1 or more, where rounding down and towards zero are
+/// the same. OWN: `Into` and `From`.
 pub trait WideIntNumber:
     Copy
     + Debug

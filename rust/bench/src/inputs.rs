@@ -1,0 +1,73 @@
+//! What is drawn.
+
+use plain::random::Random;
+
+/// A path with a name.
+pub struct Input {
+    pub name: String,
+    pub path: Vec<i32>,
+}
+
+impl Input {
+    fn new(name: String, vertices: impl Iterator<Item = [i32; 3]>) -> Input {
+        let path = vertices.flatten().collect();
+        Input { name, path }
+    }
+
+    /// A line that winds onwards, its width never the same: every step is
+    /// drawn, and every joint is round on one side.
+    pub fn hedge(count: usize) -> Input {
+        let mut random = Random::new(7);
+        let (mut x, mut y) = (0, 0);
+        let vertices = (0..count).map(|_| {
+            let vertex = [x, y, random.between(400, 699) as i32];
+            x += random.between(1500, 2499) as i32;
+            y += random.between(-800, 800) as i32;
+            vertex
+        });
+        Input::new(format!("hedge of {count}"), vertices)
+    }
+
+    /// A sheet of circles: every step is broken, and every vertex is a circle.
+    /// For that each lies within the one before it, so radii fall by more than
+    /// the points, which go in rows of thirty, lie apart.
+    pub fn circles(count: usize) -> Input {
+        let vertices = (0..count as i32).map(|place| {
+            [
+                20 * (place % 30),
+                20 * (place / 30),
+                600 * (count as i32 - place),
+            ]
+        });
+        Input::new(format!("{count} circles"), vertices)
+    }
+
+    pub fn vertices(&self) -> usize {
+        self.path.len() / 3
+    }
+
+    /// The index of the vertex in the middle.
+    pub fn middle(&self) -> usize {
+        self.vertices() / 2
+    }
+
+    /// The vertex in the middle.
+    pub fn middle_vertex(&self) -> [i32; 3] {
+        let at = 3 * self.middle();
+        [self.path[at], self.path[at + 1], self.path[at + 2]]
+    }
+
+    /// Where replacing moves the vertex in the middle.
+    pub fn moved_vertex(&self) -> [i32; 3] {
+        let [x, y, radius] = self.middle_vertex();
+        [x + 3, y - 5, radius + 2]
+    }
+
+    /// The path with the vertex in the middle moved.
+    pub fn moved_path(&self) -> Vec<i32> {
+        let mut path = self.path.clone();
+        let at = 3 * self.middle();
+        path[at..at + 3].copy_from_slice(&self.moved_vertex());
+        path
+    }
+}

@@ -1,0 +1,265 @@
+/*
+ * The four calls from C, on one path: document 01's example 5. One line for
+ * each check; the exit status is 1 if one of them fails.
+ */
+#include "sehmelir.h"
+
+#include <stdbool.h>
+#include <stdio.h>
+#include <string.h>
+
+enum {
+    PATH = 6,      /* numbers of the path */
+    EDGES = 10,    /* its edges */
+    NUMBERS = 40,  /* numbers of its edges */
+    OUTLINE = 216, /* bytes of its outline */
+    POINTS = 56,   /* bytes of an outline of two vertices without edges */
+    SPARE = 9,     /* lent beyond the result */
+    CANARIES = 16  /* not lent, before and after each lent buffer */
+};
+
+static const int32_t path[PATH] = {0, 0, 5, 20, 0, 5};
+
+static const int32_t edges[EDGES][4] = {
+    {20, 5, 0, 5},    {0, -5, 20, -5}, {0, 5, -4, 3},    {-4, 3, -5, -1},
+    {-5, -1, -2, -5}, {-2, -5, 0, -5}, {20, -5, 24, -3}, {24, -3, 25, 1},
+    {25, 1, 22, 5},   {22, 5, 20, 5},
+};
+
+/* the words of the outline before its edges */
+static const int32_t words[14] = {1, 0, 1, 2, 10, 0, 0, 5, 0, 20, 0, 5, 6, 4};
+
+/* Lent memory, canaries on both sides. */
+struct numbers {
+    int32_t before[CANARIES];
+    int32_t lent[NUMBERS + SPARE];
+    int32_t after[CANARIES];
+};
+
+struct bytes {
+    uint8_t before[CANARIES];
+    uint8_t lent[OUTLINE + SPARE];
+    uint8_t after[CANARIES];
+};
+
+static bool failed = false;
+
+static void check(bool holds, const char *what) {
+    printf("%s: %s\n", holds ? "ok" : "FAILED", what);
+    if (!holds)
+        failed = true;
+}
+
+static void check_reply(struct sehmelir_reply given, uint32_t reply,
+                        uint64_t number, uint32_t grade, const char *what) {
+    bool same =
+        given.reply == reply && given.number == number && given.grade == grade;
+    check(same, what);
+    if (!same)
+        printf("  reply %lu number %llu grade %lu\n",
+               (unsigned long)given.reply, (unsigned long long)given.number,
+               (unsigned long)given.grade);
+}
+
+/* Something in every place, different from its neighbours. */
+static void fill(void *memory, size_t size) {
+    for (size_t index = 0; index < size; index++)
+        ((uint8_t *)memory)[index] = (uint8_t)(index % 251 + 1);
+}
+
+static void put_word(uint8_t *at, int32_t word) {
+    for (int index = 0; index < 4; index++)
+        at[index] = (uint8_t)((uint32_t)word >> 8 * index);
+}
+
+/* The outline of the path, by hand. */
+static void put_outline(uint8_t *at) {
+    for (int index = 0; index < 14; index++)
+        put_word(at + 4 * index, words[index]);
+    for (int index = 0; index < NUMBERS; index++)
+        put_word(at + POINTS + 4 * index, edges[index / 4][index % 4]);
+}
+
+/* The bytes of the outline of a path of two vertices, by its edges. */
+static uint64_t bytes_of(const int32_t two[PATH]) {
+    int32_t none = 0;
+    return POINTS + 16 * sehmelir_draw(two, PATH, 1, &none, 0).number;
+}
+
+static void check_draw(void) {
+    struct numbers out, expected;
+    fill(&out, sizeof out);
+    expected = out;
+
+    check_reply(sehmelir_draw(path, PATH, 1, out.lent, 0), SEHMELIR_NO_ROOM,
+                EDGES, 0, "draw without room tells the edges needed");
+    check_reply(sehmelir_draw(path, PATH, 1, out.lent, NUMBERS - 1),
+                SEHMELIR_NO_ROOM, EDGES, 0, "draw is refused one number short");
+    check_reply(sehmelir_draw(path, PATH - 1, 1, out.lent, NUMBERS),
+                SEHMELIR_NOT_TRIPLES, PATH - 1, 0, "draw of five numbers");
+    check_reply(sehmelir_draw(path, PATH, 9, out.lent, NUMBERS), SEHMELIR_GRADE,
+                9, 0, "draw at grade 9");
+    static const int32_t many[3 * 4097];
+    check_reply(sehmelir_draw(many, 3 * 4097, 1, out.lent, NUMBERS),
+                SEHMELIR_TOO_MANY, 4097, 0, "draw of 4,097 vertices");
+    static const int32_t outside[PATH] = {0, 0, 5, 268435457, 0, 5};
+    check_reply(sehmelir_draw(outside, PATH, 1, out.lent, NUMBERS),
+                SEHMELIR_OUTSIDE, 1, 0, "draw of a vertex outside the limits");
+    check(memcmp(&out, &expected, sizeof out) == 0,
+          "draw's refusals change nothing");
+
+    check_reply(sehmelir_draw(path, PATH, 1, out.lent, NUMBERS + SPARE),
+                SEHMELIR_DONE, EDGES, 0, "draw gives ten edges");
+    memcpy(expected.lent, edges, sizeof edges);
+    check(memcmp(&out, &expected, sizeof out) == 0,
+          "draw writes the edges and nothing else");
+
+    int32_t none = 0;
+    check_reply(sehmelir_draw(&none, 0, 1, &none, 0), SEHMELIR_DONE, 0, 0,
+                "draw of no vertices without room");
+}
+
+static void check_keep(void) {
+    struct bytes out, expected;
+    fill(&out, sizeof out);
+    expected = out;
+
+    check_reply(sehmelir_keep(path, PATH, 1, out.lent, 0), SEHMELIR_NO_ROOM,
+                OUTLINE, 0, "keep without room tells the bytes needed");
+    check_reply(sehmelir_keep(path, PATH, 1, out.lent, OUTLINE - 1),
+                SEHMELIR_NO_ROOM, OUTLINE, 0, "keep is refused one byte short");
+    check_reply(sehmelir_keep(path, PATH, 0, out.lent, OUTLINE), SEHMELIR_GRADE,
+                0, 0, "keep at grade 0");
+    check(memcmp(&out, &expected, sizeof out) == 0,
+          "keep's refusals change nothing");
+
+    check_reply(sehmelir_keep(path, PATH, 1, out.lent, OUTLINE + SPARE),
+                SEHMELIR_DONE, OUTLINE, 0, "keep gives 216 bytes");
+    put_outline(expected.lent);
+    check(memcmp(&out, &expected, sizeof out) == 0,
+          "keep writes the outline and nothing else");
+}
+
+static void check_read(void) {
+    struct bytes store, same;
+    struct numbers out, expected;
+    fill(&store, sizeof store);
+    put_outline(store.lent);
+    same = store;
+    fill(&out, sizeof out);
+    expected = out;
+
+    check_reply(sehmelir_read(store.lent, OUTLINE, out.lent, PATH - 1),
+                SEHMELIR_NO_ROOM, 2, 0, "read is refused one number short");
+    check_reply(sehmelir_read(store.lent, OUTLINE - 1, out.lent, PATH),
+                SEHMELIR_NOT_OUTLINE, 0, 0, "read of a store one byte short");
+    check_reply(sehmelir_read(store.lent, 0, out.lent, PATH),
+                SEHMELIR_NOT_OUTLINE, 0, 0, "read of an empty store");
+    check(memcmp(&out, &expected, sizeof out) == 0,
+          "read's refusals change nothing");
+
+    check_reply(
+        sehmelir_read(store.lent, OUTLINE + SPARE, out.lent, NUMBERS + SPARE),
+        SEHMELIR_DONE, 2, 1, "read gives two vertices and grade 1");
+    memcpy(expected.lent, path, sizeof path);
+    check(memcmp(&out, &expected, sizeof out) == 0,
+          "read writes the path and nothing else");
+    check(memcmp(&store, &same, sizeof store) == 0,
+          "read leaves the store as it was");
+}
+
+static void check_replace(void) {
+    struct bytes store, expected;
+    fill(&store, sizeof store);
+    put_outline(store.lent);
+    expected = store;
+    size_t whole = OUTLINE + SPARE;
+
+    check_reply(sehmelir_replace(store.lent, whole, 2, 0, 0, 0),
+                SEHMELIR_NO_VERTEX, 2, 0, "replace of a third vertex");
+    check_reply(sehmelir_replace(store.lent, whole, 1, 0, 0, -1),
+                SEHMELIR_OUTSIDE, 1, 0, "replace by a radius below 0");
+    check(memcmp(&store, &expected, sizeof store) == 0,
+          "replace's refusals change nothing");
+
+    static const int32_t narrow_start[PATH] = {0, 0, 1, 20, 0, 5};
+    check_reply(sehmelir_replace(store.lent, whole, 0, 0, 0, 1), SEHMELIR_DONE,
+                bytes_of(narrow_start), 0, "replace by a smaller radius");
+    check_reply(sehmelir_replace(store.lent, whole, 1, 20, 0, 1), SEHMELIR_DONE,
+                POINTS, 0, "replace that leaves no edges");
+    static const int32_t points[14] = {1, 0, 1,  2, 0, 0, 0,
+                                       1, 0, 20, 0, 1, 0, 0};
+    for (int index = 0; index < 14; index++)
+        put_word(expected.lent + 4 * index, points[index]);
+    memset(expected.lent + POINTS, 0, OUTLINE - POINTS);
+    check(memcmp(&store, &expected, sizeof store) == 0,
+          "zeros follow up to the old end, and no farther");
+
+    static const int32_t narrow_end[PATH] = {0, 0, 5, 20, 0, 1};
+    uint64_t needed = bytes_of(narrow_end);
+    check_reply(sehmelir_replace(store.lent, POINTS, 0, 0, 0, 5),
+                SEHMELIR_NO_ROOM, needed, 0,
+                "replace is refused where the outline would outgrow its store");
+    check_reply(sehmelir_replace(store.lent, needed - 1, 0, 0, 0, 5),
+                SEHMELIR_NO_ROOM, needed, 0,
+                "replace is refused one byte short");
+    check(memcmp(&store, &expected, sizeof store) == 0,
+          "these refusals change nothing");
+
+    sehmelir_replace(store.lent, whole, 0, 0, 0, 5);
+    check_reply(sehmelir_replace(store.lent, whole, 1, 20, 0, 5), SEHMELIR_DONE,
+                OUTLINE, 0, "replace back to the first path");
+    put_outline(expected.lent);
+    check(memcmp(&store, &expected, sizeof store) == 0,
+          "the outline is again what keep gave, and nothing else changed");
+}
+
+/* The outline with one word changed: read and replace refuse it alike. */
+static void check_damaged(int place, int32_t word, uint32_t reply,
+                          uint64_t number, const char *what) {
+    struct bytes store, damaged;
+    struct numbers out, same;
+    fill(&store, sizeof store);
+    put_outline(store.lent);
+    put_word(store.lent + 4 * place, word);
+    damaged = store;
+    fill(&out, sizeof out);
+    same = out;
+
+    check_reply(sehmelir_read(store.lent, OUTLINE, out.lent, PATH), reply,
+                number, 0, what);
+    check_reply(sehmelir_replace(store.lent, OUTLINE, 0, 0, 0, 1), reply,
+                number, 0, "  and replace refuses it alike");
+    check(memcmp(&store, &damaged, sizeof store) == 0 &&
+              memcmp(&out, &same, sizeof out) == 0,
+          "  and nothing is changed");
+}
+
+static void check_damage(void) {
+    check_damaged(0, 2, SEHMELIR_NOT_OUTLINE, 0, "read of edition 2");
+    check_damaged(1, 1, SEHMELIR_KIND, 1, "read of kind 1");
+    check_damaged(2, 9, SEHMELIR_GRADE, 9, "read of grade 9");
+    check_damaged(3, 4097, SEHMELIR_TOO_MANY, 4097, "read of 4,097 vertices");
+    check_damaged(4, 11, SEHMELIR_NOT_OUTLINE, 0, "read of one edge too many");
+    check_damaged(9, -268435457, SEHMELIR_OUTSIDE, 1,
+                  "read of a vertex outside the limits");
+    check_damaged(4, 9, SEHMELIR_NOT_SOUND, 16, "read of one edge too few");
+    check_damaged(12, 7, SEHMELIR_NOT_SOUND, 48, "read of a wrong edge count");
+    check_damaged(53, 5 + 256, SEHMELIR_NOT_SOUND, 213,
+                  "read of a wrong last edge");
+}
+
+int main(void) {
+    setvbuf(stdout, NULL, _IOLBF, BUFSIZ);
+    check(sizeof(struct sehmelir_reply) == 16 &&
+              offsetof(struct sehmelir_reply, grade) == 4 &&
+              offsetof(struct sehmelir_reply, number) == 8,
+          "a reply is two 32-bit numbers and a 64-bit one");
+    check_draw();
+    check_keep();
+    check_read();
+    check_replace();
+    check_damage();
+    puts(failed ? "tests/c: FAILED" : "tests/c: all checks hold");
+    return failed;
+}
