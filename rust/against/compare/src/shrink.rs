@@ -1,5 +1,6 @@
 //! Smaller paths that show the same.
 
+use against::labels::vertices;
 use against::paths::{size, Path};
 
 /// Most changes made to one path.
@@ -12,13 +13,17 @@ pub fn shrunk(path: &[[i32; 3]], mut shows: impl FnMut(&[[i32; 3]]) -> bool) -> 
     for _ in 0..MOST {
         let found = smaller(&path)
             .into_iter()
-            .find(|other| size(other) < size(&path) && shows(other));
+            .find(|other| size(other) < size(&path) && allowed(other) && shows(other));
         match found {
             Some(found) => path = found,
             None => break,
         }
     }
     path
+}
+
+fn allowed(path: &[[i32; 3]]) -> bool {
+    vertices(path).iter().all(|vertex| vertex.allowed())
 }
 
 /// What to try in the place of a path.
