@@ -15,6 +15,7 @@ use Rattle.runs.proofs.Laws.{spread-append}
 use Rattle.arc.specs.declared.Edge.{Edge}
 use Rattle.variable_stroke.specs.Paths.{bodiesOf, joined}
 use Rattle.variable_stroke.specs.declared.Vertex.{Vertex}
+use Rattle.outline.specs.Layout.{headerWords, entryWords, entryAt, edgeBytes, lengthOf}
 use Rattle.outline.specs.Words.{fourBytes, bytesOf, headerOf, entryOf, tableOf, bodyWords, wordsWith, outlineWords, outlineBytes}
 use Rattle.outline.specs.Stores.{wordsIn, wordAt, countIn, edgesIn, edgesBefore, bodyBytesIn}
 use Rattle.outline.specs.Theorems.{Within}
@@ -85,8 +86,8 @@ module _ (g : ℕ) (vs : List Vertex) (rest : List ℕ) (h : Within g vs) where
       go : (x : Bool) → ltb i (countIn store) ≡ x → edgesIn store i ≡ length (getD bodies i [])
       go true e =
           let k : i < length vs = rw count-is at (ltb-true i (countIn store) e) in
-          let f : 8 + 4 * i ≡ 5 + (3 + 4 * i) = omega arith in
-          rw (e, edgesIn, f) (word-past (3 + 4 * i) ∙ entry-count vs bodies _ i (bodies-count g vs) k)
+          let f : entryAt i + 3 ≡ headerWords + (3 + entryWords * i) = omega arith in
+          rw (e, edgesIn, f) (word-past (3 + entryWords * i) ∙ entry-count vs bodies _ i (bodies-count g vs) k)
       go false e =
           let k : i ≡ length vs = le-antisymm l (rw count-is at (ltb-false i (countIn store) e)) in
           rw (e, edgesIn, count-is, k) (word-past (4 * length vs) ∙ closing-count vs bodies _ (bodies-count g vs))
@@ -100,7 +101,7 @@ module _ (g : ℕ) (vs : List Vertex) (rest : List ℕ) (h : Within g vs) where
     front : List ℕ
     front = headerOf g (length vs) (length (joined bodies)) ++ (tableOf vs bodies ++ bodyWords (joined (take i bodies)))
 
-    front-long : length (bytesOf front) ≡ 24 + 16 * length vs + 16 * edgesBefore store i
+    front-long : length (bytesOf front) ≡ lengthOf (length vs) (edgesBefore store i)
     unfolding front headerOf bodies
     front-long = omega (
       arith,
@@ -114,7 +115,7 @@ module _ (g : ℕ) (vs : List Vertex) (rest : List ℕ) (h : Within g vs) where
     back : List ℕ
     back = bytesOf (bodyWords (joined (drop (suc i) bodies))) ++ rest
 
-    body-long : length (bytesOf (bodyWords (getD bodies i []))) ≡ 16 * edgesIn store i
+    body-long : length (bytesOf (bodyWords (getD bodies i []))) ≡ edgeBytes * edgesIn store i
     body-long = omega (arith, bytes-length (bodyWords (getD bodies i [])), numbers-length (getD bodies i []), edges-is i l)
 
     words-split : outlineWords g vs ≡ front ++ (bodyWords (getD bodies i []) ++ bodyWords (joined (drop (suc i) bodies)))
@@ -131,7 +132,7 @@ module _ (g : ℕ) (vs : List Vertex) (rest : List ℕ) (h : Within g vs) where
     pub body-bytes : bodyBytesIn (outlineBytes g vs ++ rest) i ≡ bytesOf (bodyWords (getD (bodiesOf g vs) i []))
     unfolding bodyBytesIn store bodies
     body-bytes =
-        let e : length (bytesOf front) ≡ 24 + 16 * countIn store + 16 * edgesBefore store i = omega (arith, front-long, count-is) in
+        let e : length (bytesOf front) ≡ lengthOf (countIn store) (edgesBefore store i) = omega (arith, front-long, count-is) in
         let b = bytesOf (bodyWords (getD bodies i [])) in
-        ap (λ (l : List ℕ). take (16 * edgesIn store i) l) (ap (drop (24 + 16 * countIn store + 16 * edgesBefore store i)) bytes-split ∙ drop-at (bytesOf front) (b ++ back) _ e)
-        ∙ take-at b back (16 * edgesIn store i) body-long
+        ap (λ (l : List ℕ). take (edgeBytes * edgesIn store i) l) (ap (drop (lengthOf (countIn store) (edgesBefore store i))) bytes-split ∙ drop-at (bytesOf front) (b ++ back) _ e)
+        ∙ take-at b back (edgeBytes * edgesIn store i) body-long

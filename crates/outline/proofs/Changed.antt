@@ -1,16 +1,17 @@
 -- After the reply 0 every row failed, so the path with the new vertex is within the limits, and its outline is sound. Assumes nothing.
 use mathlib.Core.Path.{_≡_, refl, sym, ap, _∙_}
-use mathlib.Core.Bool.{Bool, true, false, not, _||_, true≢false}
+use mathlib.Core.Bool.{Bool, true, false, _||_, true≢false}
 use mathlib.Core.List.{List, [], _∷_, _++_, append-assoc}
-use Prim.Native.Nat.{ℕ, zero, suc, _+_, _-_, _*_, _≤_, _<_}
+use Prim.Native.Nat.{ℕ, zero, suc, _+_, _-_, _≤_}
 use native.Mathlib.Nat.{le-antisymm}
 use native.Mathlib.Omega.{arith}
-use lib.Dec.{eqb, ltb, leb}
+use lib.Dec.{eqb}
 use lib.ListN.{length, drop, set, replicate, length-set}
-use borrow.Author.Tests.{ltb-false, leb-false, not-false, eq-eqb}
+use borrow.Author.Tests.{ltb-false, not-false, eq-eqb}
 use Rattle.variable_stroke.specs.Limits.{allowedOf, firstOutside}
 use Rattle.variable_stroke.specs.declared.Vertex.{Vertex}
 use Rattle.variable_stroke.proofs.Locality.{earlier-kept, reach-kept}
+use Rattle.outline.specs.Layout.{headerWords}
 use Rattle.outline.specs.Words.{outlineBytes}
 use Rattle.outline.specs.Stores.{wordsIn, gradeIn, countIn, lengthIn, entriesIn, pathIn, bodiesIn, soundOf}
 use Rattle.outline.specs.Replies.{Row, Reply, firstRow, editionRow, kindRow, gradeRow, countRow, lengthRow, outsideRow, soundRow, indexRow, newRow, roomRow, storeRows, written, replacedOf, replaceReply, replaceOut}
@@ -73,7 +74,7 @@ within-store s k v h =
     let r = replace-none s k v h in
     let g = either _ _ (r .1 .1 .0) in
     let vs = pathIn s in
-    let n : length vs ≤ countIn s = entries-count (countIn s) (drop 5 (wordsIn s)) in
+    let n : length vs ≤ countIn s = entries-count (countIn s) (drop headerWords (wordsIn s)) in
     record {
       low = ltb-false _ _ (g .0);
       high = ltb-false _ _ (g .1);

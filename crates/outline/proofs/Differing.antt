@@ -7,16 +7,17 @@ use Prim.Native.Nat.{ℕ, zero, suc, _+_, _-_, _*_, _/_, _%_, _^_, _≤_, _<_}
 use native.Mathlib.Nat.{div-div-eq-div-mul}
 use native.Mathlib.Omega.{arith}
 use lib.Dec.{eqb}
-use lib.ListN.{length, getD, take, drop, length-append, length-drop}
+use lib.ListN.{length, getD, take, drop, length-drop}
 use lib.Seq.{length-take-le}
 use borrow.Author.Tests.{eq-eqb, eqb-true, eqb-false}
 use Rattle.runs.specs.Runs.{spread}
 use Rattle.variable_stroke.specs.Paths.{bodiesOf, joined, edgesOf}
 use Rattle.variable_stroke.specs.declared.Vertex.{Vertex}
+use Rattle.outline.specs.Layout.{lengthOf}
 use Rattle.outline.specs.Words.{fourBytes, bytesOf, headerOf, tableOf, bodyWords, wordsWith, outlineWords, outlineBytes}
 use Rattle.outline.specs.Stores.{wordsIn, wordAt, editionIn, kindIn, gradeIn, countIn, lengthIn, entriesIn, pathIn, dueIn, sameBytes, soundOf, firstDiffering, differingIn}
-use Rattle.outline.specs.Theorems.{Bytes, Headed, DifferingInside}
-use Rattle.outline.proofs.ReadBack.{four-back, bytes-length, outline-length, edges-few}
+use Rattle.outline.specs.Theorems.{Bytes, DifferingInside}
+use Rattle.outline.proofs.ReadBack.{four-back, outline-length, edges-few}
 
 -- ---- lists that are not the same differ first at a place inside both, where they are of one length
 first-inside : (l m : List ℕ) → length l ≡ length m → sameBytes l m ≡ false → firstDiffering l m < length l
@@ -129,7 +130,7 @@ Told a d = (firstDiffering a d < length a) × (firstDiffering a d < length d) ×
 -- two outlines of n vertices with m and m′ edges that begin with the same sixteen bytes
 module _ (a d p x y : List ℕ) (n m m′ : ℕ)
     (ea : a ≡ p ++ (fourBytes m ++ x)) (ed : d ≡ p ++ (fourBytes m′ ++ y)) (lp : length p ≡ 16)
-    (la : length a ≡ 24 + 16 * n + 16 * m) (ld : length d ≡ 24 + 16 * n + 16 * m′)
+    (la : length a ≡ lengthOf n m) (ld : length d ≡ lengthOf n m′)
     (hm : m < 2 ^ 32) (hm′ : m′ < 2 ^ 32) (f : sameBytes a d ≡ false) where
   told : Told a d
   told = go (eqb m m′) refl
@@ -179,6 +180,6 @@ differing-inside s h f =
     ap (λ (i : ℕ). take i s) e ∙ words-again (suc (suc (suc (suc (suc j))))) s (h .bytes) (omega (arith, h .long)) ∙ cut-words ws g n m j head in
     let ed = rw few at (due-words g vs) in
     let la : length (take (lengthIn s) s) ≡ lengthIn s = length-take-le (lengthIn s) s (h .long) in
-    let ld : length (dueIn s) ≡ 24 + 16 * n + 16 * length (edgesOf g vs) = rw few at (outline-length g vs) in
+    let ld : length (dueIn s) ≡ lengthOf n (length (edgesOf g vs)) = rw few at (outline-length g vs) in
     let r = told (take (lengthIn s) s) (dueIn s) (firstOf g n) _ _ n m (length (edgesOf g vs)) ea ed (first-long g n) la ld (word-small s 4 (h .bytes)) (edges-few g vs (omega (arith, h .count))) f in
     rw la at r

@@ -2,7 +2,7 @@
 use mathlib.Core.Path.{_≡_, refl, sym, ap, _∙_}
 use mathlib.Core.Bool.{Bool, true, false, true≢false}
 use mathlib.Core.List.{List, [], _∷_, _++_, append-nil}
-use Prim.Native.Nat.{ℕ, zero, suc, _+_, _-_, _*_, _/_, _^_, _≤_, _<_}
+use Prim.Native.Nat.{ℕ, zero, suc, _+_, _-_, _/_, _≤_, _<_}
 use native.Mathlib.Nat.{add-zero, zero-add}
 use native.Mathlib.Omega.{arith}
 use borrow.Author.Tests.{eqb-true, eqb-false, ltb-true, ltb-false}
@@ -14,7 +14,7 @@ use Rattle.runs.proofs.Laws.{runs-all, runs-then}
 use Rattle.runs.proofs.Agreed.{agree-out, agree-same, agree-differs, agree-stays}
 use Rattle.variable_stroke.specs.Paths.{bodiesOf, edgesOf}
 use Rattle.variable_stroke.specs.declared.Vertex.{Vertex}
-use Rattle.variable_stroke.proofs.Most.{edges-most}
+use Rattle.outline.specs.Layout.{headerBytes, frontBytes}
 use Rattle.outline.specs.Words.{fourBytes, bytesOf, headerOf, tableOf, bodyWords, wordsWith, outlineWords, outlineBytes}
 use Rattle.outline.specs.Stores.{lengthIn, dueIn, sameBytes, soundOf, firstDiffering, differingIn}
 use Rattle.outline.specs.Theorems.{Headed}
@@ -22,7 +22,7 @@ use Rattle.outline.specs.Compares.{Meets}
 use Rattle.outline.specs.declared.compare.Compared.{Compared}
 use Rattle.outline.proofs.ReadBack.{outline-length}
 use Rattle.outline.proofs.Differing.{first-append, differing-inside}
-use Rattle.outline.proofs.Comparisons.{bodies-bytes}
+use Rattle.outline.proofs.Parts.{bodies-bytes}
 
 -- ---- how far a store agrees with what is due is where it differs first
 
@@ -79,35 +79,32 @@ module _ (s : List ℕ) (g : ℕ) (vs : List Vertex) where
   unfolding outlineBytes outlineWords wordsWith bytesOf edgesOf due
   outline-first = agree-first s 0 (outlineBytes g vs) ∙ zero-add (firstDiffering s (outlineBytes g vs))
 
-  module _ {n m f : ℕ} {c : Compared} (en : n ≡ length vs) (em : m ≡ length (edgesOf g vs)) (p : Runs (agree s) fourBytes 0 0 (headerOf g n m) f 20) (q : Meets s g vs c) where
-    head : Runs (agree s) fourBytes 0 0 (headerOf g (length vs) (length (edgesOf g vs))) f 20
+  module _ {n m f : ℕ} {c : Compared} (en : n ≡ length vs) (em : m ≡ length (edgesOf g vs)) (p : Runs (agree s) fourBytes 0 0 (headerOf g n m) f headerBytes) (q : Meets s g vs c) where
+    head : Runs (agree s) fourBytes 0 0 (headerOf g (length vs) (length (edgesOf g vs))) f headerBytes
     head = rw (en, em) at p
 
-    pub first-head : f < 20 → f ≡ firstDiffering s (outlineBytes g vs)
+    pub first-head : f < headerBytes → f ≡ firstDiffering s (outlineBytes g vs)
     unfolding due
     first-head l = differs-here s _ head l ∙ outline-first
 
-    pub first-table : 20 ≤ f → c .table < 24 + 16 * n → c .table ≡ firstDiffering s (outlineBytes g vs)
+    pub first-table : headerBytes ≤ f → c .table < frontBytes n → c .table ≡ firstDiffering s (outlineBytes g vs)
     unfolding due
     first-table l k = differs-here s _ (q .table) (omega arith) ∙ differs-past s _ head l ∙ outline-first
 
-    pub first-bodies : 20 ≤ f → 24 + 16 * n ≤ c .table → c .bodies ≡ firstDiffering s (outlineBytes g vs)
+    pub first-bodies : headerBytes ≤ f → frontBytes n ≤ c .table → c .bodies ≡ firstDiffering s (outlineBytes g vs)
     unfolding due
     first-bodies l k = q .bodies .out ∙ differs-past s _ (q .table) (omega arith) ∙ differs-past s _ head l ∙ outline-first
 
 -- where the bodies that are due end, so does the outline
 module _ {s : List ℕ} (g : ℕ) (vs : List Vertex) {c : Compared} (q : Meets s g vs c) where
-  pub end-edges : {n : ℕ} → n ≡ length vs → (c .end - (24 + 16 * n)) / 16 ≡ length (edgesOf g vs)
+  pub end-edges : {n : ℕ} → n ≡ length vs → (c .end - (frontBytes n)) / 16 ≡ length (edgesOf g vs)
   end-edges e = omega (arith, q .bodies .pos, bodies-bytes g vs)
 
-  pub end-past : {n : ℕ} → n ≡ length vs → 24 + 16 * n ≤ c .end
+  pub end-past : {n : ℕ} → n ≡ length vs → frontBytes n ≤ c .end
   end-past e = omega (arith, q .bodies .pos)
 
   pub end-is : c .end ≡ length (outlineBytes g vs)
   end-is = omega (arith, q .bodies .pos, bodies-bytes g vs, outline-length g vs)
-
-pub edges-word : (g : ℕ) (vs : List Vertex) → length vs ≤ 4096 → length (edgesOf g vs) < 2 ^ 32
-edges-word g vs h = omega (arith, edges-most g vs)
 
 -- ---- a store that passed its header is sound just where it differs nowhere
 
@@ -123,7 +120,7 @@ first-take (suc n) (a ∷ l) (b ∷ m) h = go (eqb a b) h (first-take n l m)
     go true k r = ap suc (r (omega arith))
     go false k r = refl
 
-same-is : (l m : List ℕ) → sameBytes l m ≡ true → l ≡ m
+pub same-is : (l m : List ℕ) → sameBytes l m ≡ true → l ≡ m
 unfolding sameBytes
 same-is [] [] e = refl
 same-is [] (b ∷ m) e = absurd (true≢false (sym e))

@@ -1,6 +1,6 @@
 -- What replace makes of the rows of a store: a refusal is its reply, and a store that passed them is known. Assumes nothing.
 use mathlib.Core.Path.{_≡_}
-use mathlib.Core.List.{List, [], _∷_, _++_}
+use mathlib.Core.List.{List, _++_}
 use Prim.Native.Nat.{ℕ, _-_}
 use lib.IntN.{ℤ}
 use lib.ListN.{length, replicate}

@@ -1,5 +1,5 @@
 -- The marked examples: both sides of the claim are computed. Assumes nothing.
-use mathlib.Core.Path.{_≡_, refl}
+use mathlib.Core.Path.{refl}
 use lib.Count.{leadingZeros}
 use Rattle.runs.specs.Runs.{spread}
 use Rattle.number.specs.Root.{correctedOf, rootIn, rootOf, rootUpOf}

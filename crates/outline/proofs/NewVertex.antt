@@ -7,7 +7,7 @@ use native.Mathlib.Numerals.{add-one, add-two}
 use native.Mathlib.Omega.{arith}
 use borrow.Author.Tests.{le-leb, lt-leb}
 use lib.IntN.{ℤ}
-use lib.ListN.{length, set, take, drop, length-set, length-take, length-drop, take-append-drop}
+use lib.ListN.{length, set, take, drop, length-set, length-take, take-append-drop}
 use lib.Seq.{take-at}
 use mir.Syntax.{w32}
 use mir.Val.{toZ, ofZ}
@@ -20,8 +20,9 @@ use Rattle.variable_stroke.specs.Bounds.{Inside}
 use Rattle.variable_stroke.specs.Limits.{allowedOf, firstOutside}
 use Rattle.variable_stroke.specs.Paths.{pathOf, vertexNumbers, pathNumbers}
 use Rattle.variable_stroke.specs.declared.Vertex.{Vertex}
+use Rattle.outline.specs.Layout.{lengthOf}
 use Rattle.outline.specs.Words.{outlineBytes}
-use Rattle.outline.specs.Stores.{wordsIn, countIn, lengthIn, pathIn}
+use Rattle.outline.specs.Stores.{lengthIn, pathIn}
 use Rattle.outline.specs.Replies.{firstRow, indexRow, newRow, roomRow, storeRows, replacedOf, replaceReply, replaceOut}
 use Rattle.outline.specs.Answers.{refusalOf, replyOfKept, replyOfReplaced, Replaces}
 use Rattle.outline.specs.Theorems.{Within}
@@ -32,7 +33,7 @@ use Rattle.outline.specs.declared.Kept.{Kept}
 use Rattle.outline.specs.declared.Replaced.{Replaced}
 use Rattle.outline.specs.declared.Replaced.the-variants as replaced
 use Rattle.outline.proofs.ReadBack.{numbers-count}
-use Rattle.outline.proofs.Differing.{words-count, entries-full}
+use Rattle.outline.proofs.StoreRows.{path-count-in}
 use Rattle.outline.proofs.Changed.{within-changed}
 use Rattle.outline.proofs.Rows.{rows-append, refused-written}
 use Rattle.outline.proofs.PathChecks.{passes}
@@ -93,16 +94,14 @@ numbers-fit g vs p {n} e en h =
 
 module _ {s : List ℕ} {p : List ℤ} {g n m : ℕ} (h : Known s p g n m) where
   known-count : length (pathIn s) ≡ n
-  unfolding pathIn lengthIn
-  known-count =
-      entries-full (countIn s) (drop 5 (wordsIn s)) (omega (arith, length-drop 5 (wordsIn s), words-count s (5 + 4 * countIn s) (omega (arith, h .long)))) ∙ sym (h .vertices)
+  known-count = path-count-in s (h .long) ∙ sym (h .vertices)
 
-  known-long : 24 + 16 * n + 16 * m ≡ lengthIn s
+  known-long : lengthOf n m ≡ lengthIn s
   unfolding lengthIn
   known-long = omega (arith, h .vertices, h .edges)
 
   -- what the code's sums and parts need
-  pub known-few : (n ≤ 4096) × (3 * n ≤ length p) × (24 + 16 * n + 16 * m ≤ length s)
+  pub known-few : (n ≤ 4096) × (3 * n ≤ length p) × (lengthOf n m ≤ length s)
   known-few = (omega (arith, known-count, h .within .count), omega (arith, ap length (h .path), numbers-count (pathIn s), known-count, length-take (3 * n) p), omega (arith, known-long, h .long))
 
   module _ (k : ℕ) (v : Vertex) where
@@ -134,7 +133,7 @@ module _ {s : List ℕ} {p : List ℤ} {g n m : ℕ} (h : Known s p g n m) where
           let r : (4, k) ≡ replaceReply s k v = sym (after ∙ rw (lt-leb n k l, firstRow, a, firstRow)) in
           record { reply = r; store = refused-written (Outside k) _ s r }
 
-      pub change-done : (us : List Vertex) {old : ℕ} {a : Kept} {r : Replaced} {s′ : List ℕ} → allowedOf v ≡ true → us ≡ set (pathIn s) k v → old ≡ 24 + 16 * n + 16 * m
+      pub change-done : (us : List Vertex) {old : ℕ} {a : Kept} {r : Replaced} {s′ : List ℕ} → allowedOf v ≡ true → us ≡ set (pathIn s) k v → old ≡ lengthOf n m
           → Rewrites s (outlineBytes g us) old a s′ → replyOfReplaced r ≡ replyOfKept a → Replaces s k v r s′
       unfolding replacedOf replaceOut firstRow indexRow newRow
       change-done us {a = a} al eu eo w e =

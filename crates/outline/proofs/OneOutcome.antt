@@ -1,13 +1,10 @@
 -- Each case of an answer has a number of its own, so a promise allows one answer. Assumes nothing.
 use mathlib.Core.Path.{_≡_, refl, sym, ap, _∙_}
-use mathlib.Core.List.{List}
 use mathlib.Core.Bool.{true, false}
 use Prim.Native.Nat.{ℕ}
 use lib.Dec.{eqb}
-use lib.IntN.{ℤ}
-use Rattle.variable_stroke.specs.declared.Vertex.{Vertex}
 use Rattle.outline.specs.Replies.{Reply}
-use Rattle.outline.specs.Answers.{refusalOf, replyOfDrawn, replyOfKept, replyOfRead, gradeOfRead, replyOfReplaced, Draws, Keeps, Reads, Replaces}
+use Rattle.outline.specs.Answers.{refusalOf, replyOfDrawn, replyOfKept, replyOfRead, gradeOfRead, replyOfReplaced}
 use Rattle.outline.specs.Theorems.{OneDrawing, OneKeeping, OneReading, OneReplacing}
 use Rattle.outline.specs.declared.Refusal.{Refusal}
 use Rattle.outline.specs.declared.Refusal.the-variants.{NotTriples, TooMany, Grade, Outside, NoRoom, NotOutline, Kind, NotSound, NoVertex}

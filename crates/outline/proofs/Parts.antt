@@ -22,16 +22,17 @@ use Rattle.arc.specs.declared.Edge.{Edge}
 use Rattle.variable_stroke.specs.Bounds.{Inside, AroundWalk}
 use Rattle.variable_stroke.specs.Limits.{firstOutside}
 use Rattle.variable_stroke.specs.Chains.{emittedOf, nextOf, startOf}
-use Rattle.variable_stroke.specs.Paths.{none, bodiesFrom, bodiesAt, joined}
+use Rattle.variable_stroke.specs.Paths.{none, bodiesFrom, bodiesAt, bodiesOf, edgesOf, joined}
 use Rattle.variable_stroke.specs.declared.Vertex.{Vertex}
 use Rattle.variable_stroke.specs.declared.Walk.{Walk}
 use Rattle.variable_stroke.proofs.Allowed.{inside-of}
 use Rattle.variable_stroke.proofs.Contacts.{section-around}
 use Rattle.variable_stroke.proofs.ChainSteps.{next-around}
 use Rattle.variable_stroke.proofs.PathWalk.{allowed-at, edges-none, edges-start, edges-step, edges-end}
+use Rattle.outline.specs.Layout.{entryBytes, edgeBytes}
 use Rattle.outline.specs.Words.{wordOf, wordsOf, fourBytes, bytesOf, headerOf, entryOf, tableOf, bodyWords}
 use Rattle.outline.specs.Fills.{tableFrom, wordsFrom, closeOf}
-use Rattle.outline.proofs.ReadBack.{bytes-length}
+use Rattle.outline.proofs.ReadBack.{bytes-length, bodies-count, table-length, numbers-length}
 
 -- ---- numbers as words
 
@@ -149,6 +150,14 @@ module _ (t : Vector) (vs : List Vertex) where
   pub table-end : (k : ℕ) (w : Walk) → length vs ≤ k → tableFrom t w (drop k vs) ≡ length (closeOf t w) ∷ []
   unfolding tableFrom tableOf bodiesFrom
   table-end k w h = rw (drop-of-length-le vs h)
+
+-- ---- how long the parts are, in bytes
+
+pub table-bytes : (g : ℕ) (vs : List Vertex) → length (spread fourBytes (tableOf vs (bodiesOf g vs))) ≡ entryBytes * length vs + 4
+table-bytes g vs = omega (arith, four-each (tableOf vs (bodiesOf g vs)), table-length vs (bodiesOf g vs) (bodies-count g vs))
+
+pub bodies-bytes : (g : ℕ) (vs : List Vertex) → length (spread fourBytes (bodyWords (edgesOf g vs))) ≡ edgeBytes * length (edgesOf g vs)
+bodies-bytes g vs = omega (arith, four-each (bodyWords (edgesOf g vs)), numbers-length (edgesOf g vs))
 
 -- ---- a walk over a path within the limits stays within them
 

@@ -1,13 +1,11 @@
 -- The rows of a path, one law for each outcome of its tests; and what draw makes of a path that passed. Assumes nothing.
-use mathlib.Core.Path.{_≡_, refl, sym, ap, _∙_}
-use mathlib.Core.Bool.{Bool, true, false, not, _||_}
-use mathlib.Core.List.{List, [], _∷_, _++_}
-use Prim.Native.Nat.{ℕ, zero, suc, _+_, _-_, _*_, _/_, _%_, _^_, _≤_, _<_}
+use mathlib.Core.Path.{_≡_, sym, ap, _∙_}
+use mathlib.Core.List.{List, _++_}
+use Prim.Native.Nat.{ℕ, _+_, _-_, _*_, _/_, _%_, _≤_, _<_}
 use native.Mathlib.Nat.{le-antisymm}
 use native.Mathlib.Omega.{arith}
-use lib.Dec.{eqb, ltb}
 use lib.IntN.{ℤ}
-use lib.ListN.{length, drop}
+use lib.ListN.{length}
 use borrow.Author.Tests.{eq-eqb, ne-eqb, lt-ltb, le-ltb}
 use Rattle.runs.specs.Runs.{spread, Runs, Room, put}
 use Rattle.runs.proofs.Written.{written-whole}
@@ -24,12 +22,10 @@ use Rattle.variable_stroke.specs.declared.Vertex.{Vertex}
 use Rattle.outline.specs.Replies.{Reply, Row, firstRow, triplesRow, gradeRow, countRow, outsideRow, pathRows, drawReply, drawOut}
 use Rattle.outline.specs.Answers.{refusalOf, replyOfDrawn, Draws}
 use Rattle.outline.specs.Checks.{Fits, orPath, PathSays}
-use Rattle.outline.specs.Theorems.{Within}
 use Rattle.outline.proofs.Rows.{rows-append, room-short, room-enough, refused-written, done-written}
 use Rattle.outline.proofs.Changed.{outside-most}
 use Rattle.outline.specs.declared.Refusal.{Refusal}
 use Rattle.outline.specs.declared.Refusal.the-variants.{NotTriples, TooMany, Grade, Outside, NoRoom}
-use Rattle.outline.specs.declared.Drawn.{Drawn}
 use Rattle.outline.specs.declared.Drawn.the-variants as drawn
 use Rattle.outline.specs.declared.path_rows.PathCheck.{PathCheck}
 use Rattle.outline.specs.declared.path_rows.PathCheck.the-variants.{Passed, Refused}

@@ -1,7 +1,7 @@
 -- An outline over lent bytes: zeros byte by byte, and the two outcomes of the room's test. Assumes nothing.
 use mathlib.Core.Path.{_≡_, refl, sym, ap, _∙_}
 use mathlib.Core.List.{List, _++_}
-use Prim.Native.Nat.{ℕ, suc, _+_, _-_, _*_, _≤_, _<_}
+use Prim.Native.Nat.{ℕ, suc, _+_, _-_, _≤_, _<_}
 use native.Mathlib.Nat.{zero-add}
 use native.Mathlib.Numerals.{add-one}
 use native.Mathlib.Omega.{arith}
@@ -11,6 +11,7 @@ use Rattle.runs.proofs.Laws.{over-append}
 use Rattle.runs.proofs.Written.{over-whole}
 use Rattle.variable_stroke.specs.Paths.{edgesOf}
 use Rattle.variable_stroke.specs.declared.Vertex.{Vertex}
+use Rattle.outline.specs.Layout.{lengthOf}
 use Rattle.outline.specs.Words.{fourBytes, bytesOf, outlineWords, outlineBytes}
 use Rattle.outline.specs.Answers.{refusalOf, replyOfKept}
 use Rattle.outline.specs.Fills.{Rewrites}
@@ -41,7 +42,7 @@ clear-end {to = to} {i} h l = let k : to - i ≡ 0 = omega arith in sym (h .on �
 
 -- ---- the two outcomes
 
-pub needed-is : (g : ℕ) (vs : List Vertex) {n m : ℕ} → n ≡ length vs → m ≡ length (edgesOf g vs) → 24 + 16 * n + 16 * m ≡ length (outlineBytes g vs)
+pub needed-is : (g : ℕ) (vs : List Vertex) {n m : ℕ} → n ≡ length vs → m ≡ length (edgesOf g vs) → lengthOf n m ≡ length (outlineBytes g vs)
 needed-is g vs en em = omega (arith, outline-length g vs)
 
 pub rewrite-short : (s new : List ℕ) (old : ℕ) {needed : ℕ} → needed ≡ length new → length s < needed → Rewrites s new old (Refused (NoRoom needed)) s

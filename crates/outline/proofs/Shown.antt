@@ -3,7 +3,7 @@
 use mathlib.Core.Path.{_≡_, refl, sym, ap, _∙_}
 use mathlib.Core.Bool.{Bool, true, false, _&&_}
 use mathlib.Core.List.{List, [], _∷_, _++_}
-use Prim.Native.Nat.{ℕ, zero, suc, _+_, _-_, _*_, _^_, _≤_, _<_}
+use Prim.Native.Nat.{ℕ, zero, suc, _+_, _-_, _^_, _≤_, _<_}
 use native.Mathlib.Numerals.{add-one, add-two}
 use native.Mathlib.Omega.{arith}
 use borrow.Author.Tests.{ltb-false, lt-ltb, lt-leb}
@@ -21,6 +21,7 @@ use Rattle.variable_stroke.specs.Limits.{allowedOf, firstOutside}
 use Rattle.variable_stroke.specs.Paths.{pathOf, vertexNumbers, pathNumbers}
 use Rattle.variable_stroke.specs.declared.Vertex.{Vertex}
 use Rattle.variable_stroke.proofs.Allowed.{inside-of}
+use Rattle.outline.specs.Layout.{headerWords, entryAt, frontBytes}
 use Rattle.outline.specs.Words.{numberOf}
 use Rattle.outline.specs.Stores.{wordsIn, wordAt, countIn, entriesIn, pathIn}
 use Rattle.outline.specs.StoreChecks.{shownIn, shownPath, shownAt}
@@ -33,7 +34,7 @@ number-told : {z : ℤ} {w w′ : ℕ} → mag z < 2 ^ 31 → z ≡ numberOf w �
 number-told h e f = toZ-ofZ (record { sfits = h }) ∙ e ∙ ap numberOf f
 
 pub vertex-shown : {l : List ℤ} {at : ℕ} (s : List ℕ) (k : ℕ) {x y r : ℤ} {u v w : ℕ} → mag x < 2 ^ 31 → mag y < 2 ^ 31 → mag r < 2 ^ 31 → x ≡ numberOf u → y ≡ numberOf v → r ≡ numberOf w
-    → u ≡ wordAt s (5 + 4 * k) → v ≡ wordAt s (6 + 4 * k) → w ≡ wordAt s (7 + 4 * k)
+    → u ≡ wordAt s (entryAt k) → v ≡ wordAt s (entryAt k + 1) → w ≡ wordAt s (entryAt k + 2)
     → Runs put vertexNumbers l at (shownAt s k ∷ []) (set (set (set l at (toZ w32 (ofZ w32 x))) (at + 1) (toZ w32 (ofZ w32 y))) (at + 2) (toZ w32 (ofZ w32 r))) (at + 3)
 unfolding spread over vertexNumbers shownAt
 vertex-shown {at = at} s k hx hy hr ex ey er eu ev ew = record {
@@ -51,14 +52,14 @@ four-at ws i j k l m e f g h n =
     ∙ drop-cons ws l 0 (omega arith) ∙ ap (λ r. getD ws l 0 ∷ r) (ap (λ x. drop x ws) (sym h)))))
 
 module _ (s : List ℕ) (n k : ℕ) where
-  pub shown-next : k < n → 24 + 16 * n ≤ length s → shownIn (n - k) (drop (5 + 4 * k) (wordsIn s)) ≡ (shownAt s k ∷ []) ++ shownIn (n - (k + 1)) (drop (5 + 4 * (k + 1)) (wordsIn s))
+  pub shown-next : k < n → frontBytes n ≤ length s → shownIn (n - k) (drop (entryAt k) (wordsIn s)) ≡ (shownAt s k ∷ []) ++ shownIn (n - (k + 1)) (drop (entryAt (k + 1)) (wordsIn s))
   unfolding shownIn shownAt wordAt
   shown-next h l =
       let a : n - k ≡ suc (n - (k + 1)) = omega arith in
-      let enough : 5 + 4 * n ≤ length (wordsIn s) = words-count s (5 + 4 * n) (omega arith) in
-      rw (a, four-at (wordsIn s) (5 + 4 * k) (6 + 4 * k) (7 + 4 * k) (8 + 4 * k) (5 + 4 * (k + 1)) (omega arith) (omega arith) (omega arith) (omega arith) (omega arith)) refl
+      let enough : entryAt n ≤ length (wordsIn s) = words-count s (entryAt n) (omega arith) in
+      rw (a, four-at (wordsIn s) (entryAt k) (entryAt k + 1) (entryAt k + 2) (entryAt k + 3) (entryAt (k + 1)) (omega arith) (omega arith) (omega arith) (omega arith) (omega arith)) refl
 
-  pub shown-end : n ≤ k → shownIn (n - k) (drop (5 + 4 * k) (wordsIn s)) ≡ []
+  pub shown-end : n ≤ k → shownIn (n - k) (drop (entryAt k) (wordsIn s)) ≡ []
   unfolding shownIn
   shown-end h = let a : n - k ≡ 0 = omega arith in rw a
 
@@ -117,7 +118,7 @@ shown-same (suc n) (x ∷ y ∷ r ∷ c ∷ ws) h =
 
 pub shown-path : (s : List ℕ) → firstOutside (pathIn s) ≡ length (pathIn s) → shownPath s ≡ pathIn s
 unfolding shownPath pathIn
-shown-path s h = shown-same (countIn s) (drop 5 (wordsIn s)) h
+shown-path s h = shown-same (countIn s) (drop headerWords (wordsIn s)) h
 
 -- ---- a path as numbers
 

@@ -11,6 +11,7 @@ use lib.ListN.{length, take, drop}
 use Rattle.runs.specs.Runs.{Runs, put}
 use Rattle.runs.proofs.Written.{written-whole}
 use Rattle.variable_stroke.specs.Paths.{pathOf, vertexNumbers, pathNumbers}
+use Rattle.outline.specs.Layout.{headerWords, frontBytes, lengthOf}
 use Rattle.outline.specs.Stores.{wordsIn, lengthIn, pathIn}
 use Rattle.outline.specs.Replies.{Reply, Row, firstRow, storeRows, readReply, readGrade, readOut}
 use Rattle.outline.specs.Answers.{refusalOf, replyOfRead, gradeOfRead, Reads}
@@ -40,23 +41,23 @@ store-passes {s} more last a = rows-append (storeRows s) more last ∙ a .passed
 
 module _ {s : List ℕ} {h : Header} (H : Head s h) where
   pub header-count : h .n ≡ length (pathIn s)
-  header-count = H .vertices ∙ sym (path-count-in (H .headed))
+  header-count = H .vertices ∙ sym (path-count-in s (H .headed .long))
 
-  pub header-length : 24 + 16 * h .n + 16 * h .m ≡ lengthIn s
+  pub header-length : lengthOf (h .n) (h .m) ≡ lengthIn s
   unfolding lengthIn
   header-length = rw (H .vertices, H .edges)
 
-  pub header-long : 24 + 16 * h .n ≤ length s
+  pub header-long : frontBytes (h .n) ≤ length s
   header-long = omega (arith, header-length, H .headed .long)
 
   pub header-few : 3 * h .n ≤ 12288
   header-few = omega (arith, H .vertices, H .headed .count)
 
   -- the numbers that a store's vertices are shown in
-  module _ {p₀ p₁ : List ℤ} (room : 12288 ≤ length p₀) (q : Runs put vertexNumbers p₀ 0 (shownIn (h .n) (drop 5 (wordsIn s))) p₁ (3 * h .n)) where
+  module _ {p₀ p₁ : List ℤ} (room : 12288 ≤ length p₀) (q : Runs put vertexNumbers p₀ 0 (shownIn (h .n) (drop headerWords (wordsIn s))) p₁ (3 * h .n)) where
     pub shown-front : take (3 * h .n) p₁ ≡ pathNumbers (shownPath s)
     unfolding shownPath
-    shown-front = path-front q (omega (arith, header-few)) ∙ ap (λ (k : ℕ). pathNumbers (shownIn k (drop 5 (wordsIn s)))) (H .vertices)
+    shown-front = path-front q (omega (arith, header-few)) ∙ ap (λ (k : ℕ). pathNumbers (shownIn k (drop headerWords (wordsIn s)))) (H .vertices)
 
     pub shown-lent : pathOf (take (3 * h .n - 0) p₁) ≡ shownPath s
     shown-lent = ap (λ (k : ℕ). pathOf (take k p₁)) (sub-zero (3 * h .n)) ∙ ap pathOf shown-front ∙ path-back (shownPath s)
@@ -83,11 +84,11 @@ module _ {s : List ℕ} {h : Header} (out : List ℤ) (a : Sound s h) where
       let e = header-count (a .head) in
       reads-refusal out (NoRoom (h .n)) (sym (store-passes _ (0, n) a ∙ room-short (3 * n) (length out) n (0, n) (omega arith) ∙ ap (λ (k : ℕ). (5, k)) (sym e)))
 
-  pub reads-done : {out₁ : List ℤ} → 3 * h .n ≤ length out → Runs put vertexNumbers out 0 (shownIn (h .n) (drop 5 (wordsIn s))) out₁ (3 * h .n) → Reads s out (read.Vertices (h .n) (h .grade)) out₁
+  pub reads-done : {out₁ : List ℤ} → 3 * h .n ≤ length out → Runs put vertexNumbers out 0 (shownIn (h .n) (drop headerWords (wordsIn s))) out₁ (3 * h .n) → Reads s out (read.Vertices (h .n) (h .grade)) out₁
   unfolding replyOfRead gradeOfRead readReply readGrade readOut shownPath pathNumbers n
   reads-done {out₁} l p =
       let e = header-count (a .head) in
-      let f : shownIn (h .n) (drop 5 (wordsIn s)) ≡ pathIn s = ap (λ (k : ℕ). shownIn k (drop 5 (wordsIn s))) (a .head .vertices) ∙ shown-path s (a .within .inside) in
+      let f : shownIn (h .n) (drop headerWords (wordsIn s)) ≡ pathIn s = ap (λ (k : ℕ). shownIn k (drop headerWords (wordsIn s))) (a .head .vertices) ∙ shown-path s (a .within .inside) in
       let q : Runs put vertexNumbers out 0 (pathIn s) out₁ (3 * h .n) = rw f at p in
       let g : (0, h .n) ≡ readReply s (length out) = ap (λ (k : ℕ). (0, k)) e ∙ sym (store-passes _ (0, n) a ∙ room-enough (3 * n) (length out) n (0, n) (omega arith)) in
       record {

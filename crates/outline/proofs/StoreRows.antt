@@ -2,7 +2,7 @@
 use mathlib.Core.Path.{_≡_, sym, ap, _∙_}
 use mathlib.Core.Bool.{false}
 use mathlib.Core.List.{List, [], _∷_}
-use Prim.Native.Nat.{ℕ, suc, _+_, _*_, _≤_, _<_}
+use Prim.Native.Nat.{ℕ, suc, _*_, _≤_, _<_}
 use native.Mathlib.Nat.{le-antisymm}
 use native.Mathlib.Omega.{arith}
 use borrow.Author.Tests.{eq-eqb, ne-eqb, lt-ltb, le-ltb}
@@ -14,11 +14,12 @@ use mir.Val.{Fits}
 use Rattle.variable_stroke.specs.Limits.{firstOutside}
 use Rattle.variable_stroke.specs.Paths.{pathNumbers}
 use Rattle.variable_stroke.specs.declared.Vertex.{Vertex}
+use Rattle.outline.specs.Layout.{firstEdition, strokeKind, headerWords, leastBytes, entryAt, lengthOf}
 use Rattle.outline.specs.Words.{outlineBytes}
 use Rattle.outline.specs.Stores.{wordsIn, wordAt, editionIn, kindIn, gradeIn, countIn, lengthIn, pathIn, dueIn, firstDiffering, differingIn}
 use Rattle.outline.specs.Replies.{Reply, firstRow, editionRow, kindRow, gradeRow, countRow, lengthRow, outsideRow, soundRow, storeRows}
 use Rattle.outline.specs.Answers.{refusalOf}
-use Rattle.outline.specs.Theorems.{Within, Bytes, Headed}
+use Rattle.outline.specs.Theorems.{Within, Bytes}
 use Rattle.outline.specs.Compares.{Meets}
 use Rattle.outline.specs.StoreChecks.{headRows, restRows, orStore, Head, HeadSays, shownPath, RestSays, StoreSays}
 use Rattle.outline.specs.declared.Refusal.{Refusal}
@@ -49,53 +50,53 @@ module _ (s : List ℕ) where
   unfolding orStore
   refused r f = record { says = f; head = λ h e. absurd (refused-not r h e) }
 
-  pub head-short : length s < 24 → HeadSays s (Refused NotOutline)
+  pub head-short : length s < leastBytes → HeadSays s (Refused NotOutline)
   unfolding headRows editionRow firstRow refusalOf
-  head-short l = refused NotOutline (λ more. rw (lt-ltb (length s) 24 l, firstRow))
+  head-short l = refused NotOutline (λ more. rw (lt-ltb (length s) leastBytes l, firstRow))
 
-  module _ (long : 24 ≤ length s) where
+  module _ (long : leastBytes ≤ length s) where
     pub head-edition : {e : ℕ} → e ≡ wordAt s 0 → (e ≡ 1 → ⊥) → HeadSays s (Refused NotOutline)
     unfolding headRows editionRow editionIn firstRow refusalOf
-    head-edition ee n = refused NotOutline (λ more. rw (le-ltb (length s) 24 long, ne-eqb (wordAt s 0) 1 (rw ee at n), firstRow))
+    head-edition ee n = refused NotOutline (λ more. rw (le-ltb (length s) leastBytes long, ne-eqb (wordAt s 0) firstEdition (rw ee at n), firstRow))
 
     module _ (edition : wordAt s 0 ≡ 1) where
       pub head-kind : {k : ℕ} → k ≡ wordAt s 1 → (k ≡ 0 → ⊥) → HeadSays s (Refused (Kind k))
       unfolding headRows editionRow editionIn kindRow kindIn firstRow refusalOf
       head-kind {k} ek n =
-          refused (Kind k) (λ more. rw (ek, le-ltb (length s) 24 long, eq-eqb (wordAt s 0) 1 edition, firstRow, ne-eqb (wordAt s 1) 0 (rw ek at n), firstRow))
+          refused (Kind k) (λ more. rw (ek, le-ltb (length s) leastBytes long, eq-eqb (wordAt s 0) firstEdition edition, firstRow, ne-eqb (wordAt s 1) strokeKind (rw ek at n), firstRow))
 
       module _ (kind : wordAt s 1 ≡ 0) {g : ℕ} (eg : g ≡ wordAt s 2) where
         pub head-low : g < 1 → HeadSays s (Refused (Grade g))
         unfolding headRows editionRow editionIn kindRow kindIn gradeRow gradeIn firstRow refusalOf
         head-low l =
             refused (Grade g)
-            (λ more. rw (eg, le-ltb (length s) 24 long, eq-eqb (wordAt s 0) 1 edition, firstRow, eq-eqb (wordAt s 1) 0 kind, firstRow, lt-ltb (wordAt s 2) 1 (rw eg at l), firstRow))
+            (λ more. rw (eg, le-ltb (length s) leastBytes long, eq-eqb (wordAt s 0) firstEdition edition, firstRow, eq-eqb (wordAt s 1) strokeKind kind, firstRow, lt-ltb (wordAt s 2) 1 (rw eg at l), firstRow))
 
         module _ (low : 1 ≤ g) where
           pub head-high : 8 < g → HeadSays s (Refused (Grade g))
           unfolding headRows editionRow editionIn kindRow kindIn gradeRow gradeIn firstRow refusalOf
           head-high l =
               refused (Grade g)
-              (λ more. rw (eg, le-ltb (length s) 24 long, eq-eqb (wordAt s 0) 1 edition, firstRow, eq-eqb (wordAt s 1) 0 kind, firstRow, le-ltb (wordAt s 2) 1 (rw eg at low), lt-ltb 8 (wordAt s 2) (rw eg at l), firstRow))
+              (λ more. rw (eg, le-ltb (length s) leastBytes long, eq-eqb (wordAt s 0) firstEdition edition, firstRow, eq-eqb (wordAt s 1) strokeKind kind, firstRow, le-ltb (wordAt s 2) 1 (rw eg at low), lt-ltb 8 (wordAt s 2) (rw eg at l), firstRow))
 
           module _ (high : g ≤ 8) {n : ℕ} (en : n ≡ wordAt s 3) where
             pub head-many : 4096 < n → HeadSays s (Refused (TooMany n))
             unfolding headRows editionRow editionIn kindRow kindIn gradeRow gradeIn countRow countIn firstRow refusalOf
             head-many l =
                 refused (TooMany n)
-                (λ more. rw (en, le-ltb (length s) 24 long, eq-eqb (wordAt s 0) 1 edition, firstRow, eq-eqb (wordAt s 1) 0 kind, firstRow, le-ltb (wordAt s 2) 1 (rw eg at low), le-ltb 8 (wordAt s 2) (rw eg at high), firstRow, lt-ltb 4096 (wordAt s 3) (rw en at l), firstRow))
+                (λ more. rw (en, le-ltb (length s) leastBytes long, eq-eqb (wordAt s 0) firstEdition edition, firstRow, eq-eqb (wordAt s 1) strokeKind kind, firstRow, le-ltb (wordAt s 2) 1 (rw eg at low), le-ltb 8 (wordAt s 2) (rw eg at high), firstRow, lt-ltb 4096 (wordAt s 3) (rw en at l), firstRow))
 
             module _ (few : n ≤ 4096) {m : ℕ} (em : m ≡ wordAt s 4) where
-              pub head-cut : length s < 24 + 16 * n + 16 * m → HeadSays s (Refused NotOutline)
+              pub head-cut : length s < lengthOf n m → HeadSays s (Refused NotOutline)
               unfolding headRows editionRow editionIn kindRow kindIn gradeRow gradeIn countRow countIn lengthRow lengthIn firstRow refusalOf
               head-cut l =
                   refused NotOutline
-                  (λ more. rw (le-ltb (length s) 24 long, eq-eqb (wordAt s 0) 1 edition, firstRow, eq-eqb (wordAt s 1) 0 kind, firstRow, le-ltb (wordAt s 2) 1 (rw eg at low), le-ltb 8 (wordAt s 2) (rw eg at high), firstRow, le-ltb 4096 (wordAt s 3) (rw en at few), firstRow, lt-ltb (length s) (24 + 16 * wordAt s 3 + 16 * wordAt s 4) (rw (en, em) at l), firstRow))
+                  (λ more. rw (le-ltb (length s) leastBytes long, eq-eqb (wordAt s 0) firstEdition edition, firstRow, eq-eqb (wordAt s 1) strokeKind kind, firstRow, le-ltb (wordAt s 2) 1 (rw eg at low), le-ltb 8 (wordAt s 2) (rw eg at high), firstRow, le-ltb 4096 (wordAt s 3) (rw en at few), firstRow, lt-ltb (length s) (lengthOf (wordAt s 3) (wordAt s 4)) (rw (en, em) at l), firstRow))
 
-              pub head-holds : ((i : ℕ) → Fits w8 (getD s i 0)) → 24 + 16 * n + 16 * m ≤ length s → HeadSays s (Holds (record { grade = g; n = n; m = m }))
+              pub head-holds : ((i : ℕ) → Fits w8 (getD s i 0)) → lengthOf n m ≤ length s → HeadSays s (Holds (record { grade = g; n = n; m = m }))
               unfolding headRows editionRow editionIn kindRow kindIn gradeRow gradeIn countRow countIn lengthRow lengthIn firstRow orStore
               head-holds bytes l = record {
-                says = λ more. rw (le-ltb (length s) 24 long, eq-eqb (wordAt s 0) 1 edition, firstRow, eq-eqb (wordAt s 1) 0 kind, firstRow, le-ltb (wordAt s 2) 1 (rw eg at low), le-ltb 8 (wordAt s 2) (rw eg at high), firstRow, le-ltb 4096 (wordAt s 3) (rw en at few), firstRow, le-ltb (length s) (24 + 16 * wordAt s 3 + 16 * wordAt s 4) (rw (en, em) at l), firstRow);
+                says = λ more. rw (le-ltb (length s) leastBytes long, eq-eqb (wordAt s 0) firstEdition edition, firstRow, eq-eqb (wordAt s 1) strokeKind kind, firstRow, le-ltb (wordAt s 2) 1 (rw eg at low), le-ltb 8 (wordAt s 2) (rw eg at high), firstRow, le-ltb 4096 (wordAt s 3) (rw en at few), firstRow, le-ltb (length s) (lengthOf (wordAt s 3) (wordAt s 4)) (rw (en, em) at l), firstRow);
                 head = same;
               }
                 where
@@ -114,20 +115,20 @@ module _ (s : List ℕ) where
 
 -- ---- the rows past the header
 
-pub path-count-in : {s : List ℕ} → Headed s → length (pathIn s) ≡ countIn s
+pub path-count-in : (s : List ℕ) → lengthIn s ≤ length s → length (pathIn s) ≡ countIn s
 unfolding pathIn lengthIn
-path-count-in {s} h =
-    let enough : 5 + 4 * countIn s ≤ length (wordsIn s) = words-count s (5 + 4 * countIn s) (omega (arith, h .long)) in
-    entries-full (countIn s) (drop 5 (wordsIn s)) (omega (arith, length-drop 5 (wordsIn s)))
+path-count-in s h =
+    let enough : entryAt (countIn s) ≤ length (wordsIn s) = words-count s (entryAt (countIn s)) (omega (arith, h)) in
+    entries-full (countIn s) (drop headerWords (wordsIn s)) (omega (arith, length-drop headerWords (wordsIn s)))
 
 module _ {s : List ℕ} {h : Header} {vs : List Vertex} (H : Head s h) (P : vs ≡ shownPath s) where
   pub count-is : h .n ≡ length vs
   unfolding shownPath pathIn
-  count-is = H .vertices ∙ sym (ap length P ∙ shown-count (countIn s) (drop 5 (wordsIn s)) ∙ path-count-in (H .headed))
+  count-is = H .vertices ∙ sym (ap length P ∙ shown-count (countIn s) (drop headerWords (wordsIn s)) ∙ path-count-in s (H .headed .long))
 
   outside-is : firstOutside vs ≡ firstOutside (pathIn s)
   unfolding shownPath pathIn
-  outside-is = ap firstOutside P ∙ shown-outside (countIn s) (drop 5 (wordsIn s))
+  outside-is = ap firstOutside P ∙ shown-outside (countIn s) (drop headerWords (wordsIn s))
 
   rest-refused : (r : Refusal) → ((more : Reply) → firstRow (restRows s) more ≡ refusalOf r) → RestSays s (Refused r)
   unfolding orStore
@@ -137,12 +138,12 @@ module _ {s : List ℕ} {h : Header} {vs : List Vertex} (H : Head s h) (P : vs �
   unfolding restRows outsideRow firstRow refusalOf
   rest-outside {i} e l =
       let f : i ≡ firstOutside (pathIn s) = e ∙ outside-is in
-      let k : firstOutside (pathIn s) < length (pathIn s) = omega (arith, H .vertices, path-count-in (H .headed)) in
+      let k : firstOutside (pathIn s) < length (pathIn s) = omega (arith, H .vertices, path-count-in s (H .headed .long)) in
       rest-refused (Outside i) (λ more. rw (f, lt-ltb (firstOutside (pathIn s)) (length (pathIn s)) k, firstRow))
 
   module _ {i : ℕ} (e : i ≡ firstOutside vs) (l : h .n ≤ i) where
     inside-is : firstOutside (pathIn s) ≡ length (pathIn s)
-    inside-is = le-antisymm (outside-most (pathIn s)) (omega (arith, e, outside-is, H .vertices, path-count-in (H .headed)))
+    inside-is = le-antisymm (outside-most (pathIn s)) (omega (arith, e, outside-is, H .vertices, path-count-in s (H .headed .long)))
 
     same-path : vs ≡ pathIn s
     same-path = P ∙ shown-path s inside-is
@@ -151,7 +152,7 @@ module _ {s : List ℕ} {h : Header} {vs : List Vertex} (H : Head s h) (P : vs �
     within = record {
       low = omega (arith, H .low, H .grade);
       high = omega (arith, H .high, H .grade);
-      count = omega (arith, H .headed .count, path-count-in (H .headed));
+      count = omega (arith, H .headed .count, path-count-in s (H .headed .long));
       inside = inside-is;
     }
 

@@ -1,13 +1,12 @@
 -- The theorems through the calls: after the reply 0 no row held, so what stands in lent bytes is an outline within the limits, and what is known of
 -- outlines holds of it. Assumes nothing.
 use mathlib.Core.Path.{_≡_, refl, sym, ap, _∙_}
-use mathlib.Core.Bool.{Bool, true, false, true≢false}
+use mathlib.Core.Bool.{true}
 use mathlib.Core.List.{List, [], _∷_, _++_, append-assoc, append-nil}
 use Prim.Native.Nat.{ℕ, _+_, _-_, _*_, _%_, _≤_, _<_}
 use native.Mathlib.Nat.{le-antisymm}
 use native.Mathlib.Omega.{arith}
 use borrow.Author.Tests.{eqb-true, ltb-false, leb-false, not-false}
-use lib.Dec.{eqb}
 use lib.IntN.{ℤ}
 use lib.ListN.{length, getD, take, drop, set, replicate, take-append-drop, length-append, length-replicate, length-set}
 use lib.Seq.{getD-take, getD-drop, take-at, drop-at}
@@ -17,7 +16,7 @@ use Rattle.variable_stroke.specs.Paths.{pathOf, vertexNumbers, pathNumbers}
 use Rattle.variable_stroke.specs.declared.Vertex.{Vertex}
 use Rattle.arc.specs.declared.Edge.{Edge}
 use Rattle.outline.specs.Words.{bytesOf, bodyWords, outlineBytes}
-use Rattle.outline.specs.Stores.{gradeIn, lengthIn, pathIn, dueIn, bodiesIn, sameBytes, soundOf, bodyBytesIn}
+use Rattle.outline.specs.Stores.{gradeIn, lengthIn, pathIn, dueIn, bodiesIn, soundOf, bodyBytesIn}
 use Rattle.outline.specs.Replies.{Reply, Row, firstRow, triplesRow, gradeRow, countRow, outsideRow, roomRow, indexRow, pathRows, storeRows, written, keepReply, keepOut, replacedOf, replaceReply, replaceOut}
 use Rattle.outline.specs.Theorems.{Within, KeepRead, ReplacedIsKept, BodyBytes, BytesKept}
 use Rattle.outline.proofs.ReadBack.{NoneHold, first-skip, kept-is-read, numbers-count}
@@ -25,20 +24,10 @@ use Rattle.outline.proofs.Changed.{first-none, either, outside-most, re
 use Rattle.outline.proofs.Rows.{rows-append, room-enough, done-written}
 use Rattle.outline.proofs.Shown.{path-back}
 use Rattle.outline.proofs.NewVertex.{numbers-fit}
+use Rattle.outline.proofs.FirstByte.{same-is}
 use Rattle.outline.proofs.BodiesInBytes.{body-bytes}
 
 -- ---- the bytes of a body in a sound store
-
-same-is : (l m : List ℕ) → sameBytes l m ≡ true → l ≡ m
-unfolding sameBytes
-same-is [] [] e = refl
-same-is [] (b ∷ m) e = absurd (true≢false (sym e))
-same-is (a ∷ l) [] e = absurd (true≢false (sym e))
-same-is (a ∷ l) (b ∷ m) e = go (eqb a b) refl e (same-is l m)
-  where
-    go : (x : Bool) → eqb a b ≡ x → elim x [ true ↦ sameBytes l m | false ↦ false ] ≡ true → (sameBytes l m ≡ true → l ≡ m) → a ∷ l ≡ b ∷ m
-    go true f h r = λ i. eqb-true a b f i ∷ r h i
-    go false f h r = absurd (true≢false (sym h))
 
 -- a sound store begins with what is due
 sound-begins : (s : List ℕ) → soundOf s ≡ true → s ≡ outlineBytes (gradeIn s) (pathIn s) ++ drop (lengthIn s) s

@@ -1,7 +1,7 @@
 -- What a check of shared rows says: a refusal is the first row that held; where none did, what the rows ask holds.
 use mathlib.Core.Path.{_≡_}
 use mathlib.Core.List.{List}
-use Prim.Native.Nat.{ℕ, _*_}
+use Prim.Native.Nat.{ℕ}
 use lib.IntN.{ℤ}
 use lib.ListN.{length}
 use Rattle.variable_stroke.specs.Paths.{pathOf}

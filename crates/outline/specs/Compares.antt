@@ -1,13 +1,14 @@
 -- What the functions that compare a store with the outline of a path promise: how far its table agrees, and how far its bodies do.
 use mathlib.Core.Path.{_≡_}
 use mathlib.Core.List.{List, [], _∷_}
-use Prim.Native.Nat.{ℕ, _+_, _*_}
+use Prim.Native.Nat.{ℕ, _+_}
 use lib.ListN.{length}
 use Rattle.runs.specs.Runs.{Runs, agree}
 use Rattle.plane.specs.declared.Vector.{Vector}
 use Rattle.variable_stroke.specs.Chains.{emittedOf, nextOf}
 use Rattle.variable_stroke.specs.Paths.{bodiesOf, edgesOf}
 use Rattle.variable_stroke.specs.declared.Vertex.{Vertex}
+use Rattle.outline.specs.Layout.{headerBytes, frontBytes}
 use Rattle.outline.specs.Words.{fourBytes, entryOf, tableOf, bodyWords}
 use Rattle.outline.specs.Fills.{closeOf}
 use Rattle.outline.specs.declared.compare.Comparing.{Comparing}
@@ -24,7 +25,7 @@ pub record EndMeets (t : Vector) (s : List ℕ) (c : Comparing) (r : Compared) :
   pub table : Runs (agree s) fourBytes (c .table) (c .entry) (length (closeOf t (c .walk)) ∷ []) (r .table) (c .entry + 4)
   pub bodies : Runs (agree s) fourBytes (c .bodies) (c .at) (bodyWords (closeOf t (c .walk))) (r .bodies) (r .end)
 
--- the whole table from byte 20 on, and all bodies after it
+-- the whole table after the header, and all bodies after it
 pub record Meets (s : List ℕ) (g : ℕ) (vs : List Vertex) (r : Compared) : Type 0 where
-  pub table : Runs (agree s) fourBytes 20 20 (tableOf vs (bodiesOf g vs)) (r .table) (24 + 16 * length vs)
-  pub bodies : Runs (agree s) fourBytes (24 + 16 * length vs) (24 + 16 * length vs) (bodyWords (edgesOf g vs)) (r .bodies) (r .end)
+  pub table : Runs (agree s) fourBytes headerBytes headerBytes (tableOf vs (bodiesOf g vs)) (r .table) (frontBytes (length vs))
+  pub bodies : Runs (agree s) fourBytes (frontBytes (length vs)) (frontBytes (length vs)) (bodyWords (edgesOf g vs)) (r .bodies) (r .end)

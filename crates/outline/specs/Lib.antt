@@ -1,4 +1,5 @@
 -- Document 01, "The kept outline" and "Replies": what the contracts cite, and the theorems over the definitions.
+pub mod Layout
 pub mod Words
 pub mod Stores
 pub mod Replies

@@ -10,6 +10,7 @@ use Rattle.arc.specs.Edges.{edgeNumbers}
 use Rattle.variable_stroke.specs.Limits.{allowedOf, firstOutside}
 use Rattle.variable_stroke.specs.Paths.{pathOf, pathNumbers, edgesOf}
 use Rattle.variable_stroke.specs.declared.Vertex.{Vertex}
+use Rattle.outline.specs.Layout.{firstEdition, strokeKind, leastBytes}
 use Rattle.outline.specs.Words.{outlineBytes}
 use Rattle.outline.specs.Stores.{editionIn, kindIn, gradeIn, countIn, lengthIn, pathIn, soundOf, differingIn}
 
@@ -33,11 +34,11 @@ triplesRow l = (not (eqb (length l % 3) 0), (1, length l))
 
 -- 6, under 24 bytes, or edition not 1.
 unfoldable pub editionRow : List ℕ → Row
-editionRow s = (ltb (length s) 24 || not (eqb (editionIn s) 1), (6, 0))
+editionRow s = (ltb (length s) leastBytes || not (eqb (editionIn s) firstEdition), (6, 0))
 
 -- 7, kind not 0: the kind.
 unfoldable pub kindRow : List ℕ → Row
-kindRow s = (not (eqb (kindIn s) 0), (7, kindIn s))
+kindRow s = (not (eqb (kindIn s) strokeKind), (7, kindIn s))
 
 -- 3, grade not 1 to 8: the grade.
 unfoldable pub gradeRow : ℕ → Row

@@ -6,6 +6,7 @@ use lib.IntN.{ℤ}
 use lib.ListN.{take, drop}
 use Rattle.variable_stroke.specs.Paths.{pathNumbers}
 use Rattle.variable_stroke.specs.declared.Vertex.{Vertex}
+use Rattle.outline.specs.Layout.{headerWords, entryAt}
 use Rattle.outline.specs.Words.{numberOf}
 use Rattle.outline.specs.Stores.{wordsIn, wordAt, gradeIn, countIn, pathIn}
 use Rattle.outline.specs.Replies.{Reply, Row, firstRow, editionRow, kindRow, gradeRow, countRow, lengthRow, outsideRow, soundRow, storeRows}
@@ -51,11 +52,11 @@ shownIn (suc n) (x ∷ y ∷ r ∷ []) = []
 shownIn (suc n) (x ∷ y ∷ r ∷ c ∷ ws) = record { x = numberOf x; y = numberOf y; radius = numberOf r } ∷ shownIn n ws
 
 unfoldable pub shownPath : List ℕ → List Vertex
-shownPath s = shownIn (countIn s) (drop 5 (wordsIn s))
+shownPath s = shownIn (countIn s) (drop headerWords (wordsIn s))
 
 -- the k-th of them
 unfoldable pub shownAt : List ℕ → ℕ → Vertex
-shownAt s k = record { x = numberOf (wordAt s (5 + 4 * k)); y = numberOf (wordAt s (6 + 4 * k)); radius = numberOf (wordAt s (7 + 4 * k)) }
+shownAt s k = record { x = numberOf (wordAt s (entryAt k)); y = numberOf (wordAt s (entryAt k + 1)); radius = numberOf (wordAt s (entryAt k + 2)) }
 
 -- a store that passed every shared row
 pub record Sound (s : List ℕ) (h : Header) : Type 0 where

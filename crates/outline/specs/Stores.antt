@@ -8,6 +8,7 @@ use lib.ListN.{getD, take, drop}
 use Rattle.arc.specs.declared.Edge.{Edge}
 use Rattle.variable_stroke.specs.Paths.{bodiesOf}
 use Rattle.variable_stroke.specs.declared.Vertex.{Vertex}
+use Rattle.outline.specs.Layout.{headerWords, entryAt, edgeBytes, frontBytes, lengthOf}
 use Rattle.outline.specs.Words.{numberOf, outlineBytes}
 
 -- the words of a store; bytes left over are none
@@ -36,7 +37,7 @@ countIn store = wordAt store 3
 
 -- Length 24 + 16n + 16m bytes.
 unfoldable pub lengthIn : List ℕ → ℕ
-lengthIn store = 24 + 16 * countIn store + 16 * wordAt store 4
+lengthIn store = lengthOf (countIn store) (wordAt store 4)
 
 -- Per vertex: x, y, radius and a count; n vertices of a table.
 unfoldable pub entriesIn : ℕ → List ℕ → List Vertex
@@ -48,7 +49,7 @@ entriesIn (suc n) (x ∷ y ∷ r ∷ []) = []
 entriesIn (suc n) (x ∷ y ∷ r ∷ c ∷ ws) = record { x = numberOf x; y = numberOf y; radius = pos r } ∷ entriesIn n ws
 
 unfoldable pub pathIn : List ℕ → List Vertex
-pathIn store = entriesIn (countIn store) (drop 5 (wordsIn store))
+pathIn store = entriesIn (countIn store) (drop headerWords (wordsIn store))
 
 -- What its own vertices and grade give.
 unfoldable pub dueIn : List ℕ → List ℕ
@@ -80,13 +81,13 @@ differingIn store = firstDiffering (take (lengthIn store) store) (dueIn store)
 
 -- How many edges the table says that body i has: a word of its vertex's entry, and past the entries the word of the closing body, which is body n.
 unfoldable pub edgesIn : List ℕ → ℕ → ℕ
-edgesIn store i = elim (ltb i (countIn store)) [ true ↦ wordAt store (8 + 4 * i) | false ↦ wordAt store (5 + 4 * countIn store) ]
+edgesIn store i = elim (ltb i (countIn store)) [ true ↦ wordAt store (entryAt i + 3) | false ↦ wordAt store (entryAt (countIn store)) ]
 
 -- and how many all the bodies before it have
 unfoldable pub edgesBefore : List ℕ → ℕ → ℕ
 edgesBefore store zero = 0
 edgesBefore store (suc i) = edgesBefore store i + edgesIn store i
 
--- The bytes of body i as the table marks them off: 16 an edge, from 24 + 16n on.
+-- The bytes of body i as the table marks them off.
 unfoldable pub bodyBytesIn : List ℕ → ℕ → List ℕ
-bodyBytesIn store i = take (16 * edgesIn store i) (drop (24 + 16 * countIn store + 16 * edgesBefore store i) store)
+bodyBytesIn store i = take (edgeBytes * edgesIn store i) (drop (frontBytes (countIn store) + edgeBytes * edgesBefore store i) store)

@@ -9,6 +9,7 @@ use Rattle.variable_stroke.specs.Limits.{firstOutside}
 use Rattle.variable_stroke.specs.Paths.{pathOf, pathNumbers, edgesOf}
 use Rattle.variable_stroke.specs.Local.{reachOf}
 use Rattle.variable_stroke.specs.declared.Vertex.{Vertex}
+use Rattle.outline.specs.Layout.{firstEdition, strokeKind, lengthOf}
 use Rattle.outline.specs.Words.{bytesOf, bodyWords, outlineBytes}
 use Rattle.outline.specs.Stores.{editionIn, kindIn, gradeIn, countIn, lengthIn, pathIn, dueIn, bodiesIn, soundOf, differingIn, bodyBytesIn}
 use Rattle.outline.specs.Replies.{keepReply, keepOut, readReply, readGrade, readOut, replaceReply, replaceOut}
@@ -27,7 +28,7 @@ pub record Within (g : ℕ) (vs : List Vertex) : Type 0 where
 
 -- An outline has 24 + 16n + 16m bytes.
 abbrev pub OutlineLength : Type 0
-OutlineLength = (g : ℕ) (vs : List Vertex) → length (outlineBytes g vs) ≡ 24 + 16 * length vs + 16 * length (edgesOf g vs)
+OutlineLength = (g : ℕ) (vs : List Vertex) → length (outlineBytes g vs) ≡ lengthOf (length vs) (length (edgesOf g vs))
 
 -- An outline, with any bytes after it, is sound and says its own length, grade and path.
 abbrev pub KeptIsSound : Type 0
@@ -62,8 +63,8 @@ Bytes (b ∷ l) = (b < 256) × Bytes l
 
 pub record Headed (s : List ℕ) : Type 0 where
   pub bytes : Bytes s
-  pub edition : editionIn s ≡ 1
-  pub kind : kindIn s ≡ 0
+  pub edition : editionIn s ≡ firstEdition
+  pub kind : kindIn s ≡ strokeKind
   pub count : countIn s ≤ 4096
   pub long : lengthIn s ≤ length s
 

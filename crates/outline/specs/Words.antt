@@ -1,7 +1,7 @@
 -- Document 01, "The kept outline": words and bytes.
 use mathlib.Core.Bool.{true, false}
 use mathlib.Core.List.{List, [], _∷_, _++_}
-use Prim.Native.Nat.{ℕ, _+_, _-_, _*_, _/_, _%_, _^_}
+use Prim.Native.Nat.{ℕ, _+_, _-_, _/_, _%_, _^_}
 use lib.Dec.{ltb}
 use lib.IntN.{ℤ, pos, negsuc}
 use lib.ListN.{length}
@@ -10,6 +10,7 @@ use Rattle.arc.specs.Edges.{edgeNumbers}
 use Rattle.arc.specs.declared.Edge.{Edge}
 use Rattle.variable_stroke.specs.Paths.{bodiesOf, joined}
 use Rattle.variable_stroke.specs.declared.Vertex.{Vertex}
+use Rattle.outline.specs.Layout.{firstEdition, strokeKind}
 
 -- 32-bit words: x, y and edge points in two's complement, the rest unsigned.
 unfoldable pub wordOf : ℤ → ℕ
@@ -32,7 +33,7 @@ bytesOf ws = spread fourBytes ws
 
 -- Header: edition 1, kind 0, grade, vertices n, edges m.
 unfoldable pub headerOf : ℕ → ℕ → ℕ → List ℕ
-headerOf g n m = 1 ∷ 0 ∷ g ∷ n ∷ m ∷ []
+headerOf g n m = firstEdition ∷ strokeKind ∷ g ∷ n ∷ m ∷ []
 
 -- Per vertex: x, y, radius, number of edges emitted on reaching it.
 unfoldable pub entryOf : Vertex → ℕ → List ℕ

@@ -2,6 +2,14 @@
 use crate::Refusal;
 use crate::compare::Compared;
 use crate::compare::compare;
+use crate::layout::EDGE;
+use crate::layout::ENTRY;
+use crate::layout::ENTRY_WORDS;
+use crate::layout::FIRST_EDITION;
+use crate::layout::HEADER;
+use crate::layout::HEADER_WORDS;
+use crate::layout::LEAST;
+use crate::layout::STROKE_KIND;
 use crate::words::same_word;
 use crate::words::signed;
 use crate::words::word_at;
@@ -12,6 +20,7 @@ ghost use Prim.Native.Nat.{_+_, _*_, _≤_};
 ghost use lib.ListN.{length, take, drop};
 ghost use Rattle.runs.specs.Runs.{Runs, put};
 ghost use Rattle.variable_stroke.specs.Paths.{pathOf, vertexNumbers, pathNumbers};
+ghost use Rattle.outline.specs.Layout.{headerWords, headerBytes, entryBytes, frontBytes};
 ghost use Rattle.outline.specs.Words.{outlineBytes};
 ghost use Rattle.outline.specs.Stores.{wordsIn, firstDiffering};
 ghost use Rattle.outline.specs.Compares.{Meets};
@@ -34,14 +43,14 @@ pub enum Checked {
 pub fn head_rows(s: &[u8]) -> Checked
     ensures { λ r. ⌜ HeadSays (now (s .entry)) r ⌝ }
 {
-    if s.len() < 24 {
+    if s.len() < LEAST {
         return Checked::Refused(Refusal::NotOutline);
     }
-    if word_at(s, 0) != 1 {
+    if word_at(s, 0) != FIRST_EDITION {
         return Checked::Refused(Refusal::NotOutline);
     }
     let kind = word_at(s, 1);
-    if kind != 0 {
+    if kind != STROKE_KIND {
         return Checked::Refused(Refusal::Kind(kind));
     }
     let grade = word_at(s, 2);
@@ -56,7 +65,7 @@ pub fn head_rows(s: &[u8]) -> Checked
         return Checked::Refused(Refusal::TooMany(n));
     }
     let m = word_at(s, 4) as usize;
-    if s.len() < 24 + 16 * n + 16 * m {
+    if s.len() < LEAST + ENTRY * n + EDGE * m {
         return Checked::Refused(Refusal::NotOutline);
     }
     let h = Header {
@@ -69,12 +78,13 @@ pub fn head_rows(s: &[u8]) -> Checked
 
 // The k-th vertex of a store as three numbers.
 fn show_vertex(s: &[u8], k: usize, out: &mut [i32])
-    requires { ⌜ (36 + 16 * k ≤ length (now s)) × (3 * k + 3 ≤ length (now out)) ⌝ }
+    requires { ⌜ (headerBytes + entryBytes * k + entryBytes ≤ length (now s)) × (3 * k + 3 ≤ length (now out)) ⌝ }
     ensures { λ _. ⌜ Runs put vertexNumbers (now (out .entry)) (3 * k) (shownAt (now (s .entry)) k ∷ []) (now (out .exit)) (3 * k + 3) ⌝ }
 {
-    let x = signed(word_at(s, 5 + 4 * k));
-    let y = signed(word_at(s, 6 + 4 * k));
-    let radius = signed(word_at(s, 7 + 4 * k));
+    let entry = HEADER_WORDS + ENTRY_WORDS * k;
+    let x = signed(word_at(s, entry));
+    let y = signed(word_at(s, entry + 1));
+    let radius = signed(word_at(s, entry + 2));
     let at = 3 * k;
     out[at] = x;
     out[at + 1] = y;
@@ -83,8 +93,8 @@ fn show_vertex(s: &[u8], k: usize, out: &mut [i32])
 
 // The vertices of a store as numbers, three a vertex.
 pub fn show_path(s: &[u8], n: usize, out: &mut [i32])
-    requires { ⌜ (24 + 16 * n ≤ length (now s)) × (3 * n ≤ length (now out)) ⌝ }
-    ensures { λ _. ⌜ Runs put vertexNumbers (now (out .entry)) 0 (shownIn n (drop 5 (wordsIn (now (s .entry))))) (now (out .exit)) (3 * n) ⌝ }
+    requires { ⌜ (frontBytes n ≤ length (now s)) × (3 * n ≤ length (now out)) ⌝ }
+    ensures { λ _. ⌜ Runs put vertexNumbers (now (out .entry)) 0 (shownIn n (drop headerWords (wordsIn (now (s .entry))))) (now (out .exit)) (3 * n) ⌝ }
 {
     let mut k: usize = 0;
     while k < n {
@@ -98,14 +108,14 @@ fn first_difference(path: &[i32], s: &[u8], grade: u32, n: usize, c: Compared) -
     requires { ⌜ (n ≡ length (pathOf (now path))) × (n ≤ 4096) × Meets (now s) grade (pathOf (now path)) c ⌝ }
     ensures { λ r. ⌜ r ≡ firstDiffering (now (s .entry)) (outlineBytes grade (pathOf (now (path .entry)))) ⌝ }
 {
-    let base = 24 + 16 * n;
-    let m = (c.end - base) / 16;
-    let a = same_word(s, 0, 0, 1);
-    let b = same_word(s, a, 4, 0);
+    let base = LEAST + ENTRY * n;
+    let m = (c.end - base) / EDGE;
+    let a = same_word(s, 0, 0, FIRST_EDITION);
+    let b = same_word(s, a, 4, STROKE_KIND);
     let d = same_word(s, b, 8, grade);
     let e = same_word(s, d, 12, n as u32);
     let f = same_word(s, e, 16, m as u32);
-    if f < 20 {
+    if f < HEADER {
         return f;
     }
     if c.table < base {

@@ -1,4 +1,7 @@
 // A store compared with the outline that its own vertices give, in one walk: the table and the bodies go on side by side.
+use crate::layout::ENTRY;
+use crate::layout::HEADER;
+use crate::layout::LEAST;
 use crate::words::bits;
 use crate::words::same_word;
 use crate::words::wide_bits;
@@ -14,6 +17,7 @@ ghost use Rattle.runs.specs.Runs.{Runs, agree};
 ghost use Rattle.plane.specs.Directions.{UnitLong};
 ghost use Rattle.variable_stroke.specs.Bounds.{Inside, AroundWalk};
 ghost use Rattle.variable_stroke.specs.Paths.{pathOf};
+ghost use Rattle.outline.specs.Layout.{entryBytes};
 ghost use Rattle.outline.specs.Words.{wordsOf, fourBytes, entryOf};
 ghost use Rattle.outline.specs.Theorems.{Within};
 ghost use Rattle.outline.specs.Compares.{StepMeets, EndMeets, Meets};
@@ -53,8 +57,8 @@ pub fn same_numbers(from: &[i32], n: usize, s: &[u8], ok: usize, at: usize) -> u
 // An entry of the table.
 pub fn same_entry(s: &[u8], ok: usize, at: usize, v: Vertex, count: u32) -> usize
     requires { ⌜ Inside v ⌝ }
-    requires { ⌜ at + 16 < 2 ^ 64 ⌝ }
-    ensures { λ r. ⌜ Runs (agree (now (s .entry))) fourBytes ok at (entryOf v count) r (at + 16) ⌝ }
+    requires { ⌜ at + entryBytes < 2 ^ 64 ⌝ }
+    ensures { λ r. ⌜ Runs (agree (now (s .entry))) fourBytes ok at (entryOf v count) r (at + entryBytes) ⌝ }
 {
     let a = same_word(s, ok, at, wide_bits(v.x));
     let b = same_word(s, a, at + 4, wide_bits(v.y));
@@ -65,7 +69,7 @@ pub fn same_entry(s: &[u8], ok: usize, at: usize, v: Vertex, count: u32) -> usiz
 // A step to v: the edges emitted on the way stand in `own` while they are compared.
 pub fn compare_step(c: Comparing, t: Vector, v: Vertex, own: &mut [i32], s: &[u8]) -> Comparing
     requires { ⌜ UnitLong t × AroundWalk (c .walk) × Inside v × (36908 ≤ length (now own)) ⌝ }
-    requires { ⌜ (c .entry + 16 < 2 ^ 64) × (c .at + 147632 < 2 ^ 64) ⌝ }
+    requires { ⌜ (c .entry + entryBytes < 2 ^ 64) × (c .at + 147632 < 2 ^ 64) ⌝ }
     ensures { λ r. ⌜ StepMeets t (now (s .entry)) c v r ⌝ }
 {
     let walk = c.walk;
@@ -74,7 +78,7 @@ pub fn compare_step(c: Comparing, t: Vector, v: Vertex, own: &mut [i32], s: &[u8
     let next = w.walk;
     let table = same_entry(s, c.table, c.entry, v, (n / 4) as u32);
     let bodies = same_numbers(own, n, s, c.bodies, c.at);
-    let entry = c.entry + 16;
+    let entry = c.entry + ENTRY;
     let at = c.at + 4 * n;
     Comparing {
         walk: next,
@@ -104,9 +108,9 @@ pub fn compare(path: &[i32], n: usize, grade: u32, own: &mut [i32], s: &[u8]) ->
     requires { ⌜ (n ≡ length (pathOf (now path))) × Within grade (pathOf (now path)) × (36908 ≤ length (now own)) ⌝ }
     ensures { λ r. ⌜ Meets (now (s .entry)) grade (pathOf (now (path .entry))) r ⌝ }
 {
-    let base = 24 + 16 * n;
+    let base = LEAST + ENTRY * n;
     if n == 0 {
-        let none = same_word(s, 20, 20, 0);
+        let none = same_word(s, HEADER, HEADER, 0);
         return Compared {
             table: none,
             bodies: base,
@@ -115,11 +119,12 @@ pub fn compare(path: &[i32], n: usize, grade: u32, own: &mut [i32], s: &[u8]) ->
     }
     let t = step(grade);
     let a = vertex(path, 0);
-    let first = same_entry(s, 20, 20, a, 0);
+    let first = same_entry(s, HEADER, HEADER, a, 0);
+    let second = HEADER + ENTRY;
     let mut c = Comparing {
         walk: Walk::new(a),
         table: first,
-        entry: 36,
+        entry: second,
         bodies: base,
         at: base,
     };

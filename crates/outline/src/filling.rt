@@ -1,4 +1,9 @@
 // An outline filled in: numbers as words, then the table and the bodies in one walk over lent triples.
+use crate::layout::ENTRY;
+use crate::layout::FIRST_EDITION;
+use crate::layout::HEADER;
+use crate::layout::LEAST;
+use crate::layout::STROKE_KIND;
 use crate::words::bits;
 use crate::words::put_word;
 use crate::words::wide_bits;
@@ -17,6 +22,7 @@ ghost use Rattle.variable_stroke.specs.Limits.{firstOutside};
 ghost use Rattle.variable_stroke.specs.Chains.{emittedOf};
 ghost use Rattle.variable_stroke.specs.Paths.{pathOf, bodiesOf, edgesOf};
 ghost use Rattle.variable_stroke.specs.Bounds.{Inside, AroundWalk};
+ghost use Rattle.outline.specs.Layout.{headerBytes, frontBytes};
 ghost use Rattle.outline.specs.Words.{wordsOf, fourBytes, headerOf, entryOf, tableOf, bodyWords, outlineWords};
 ghost use Rattle.outline.specs.Theorems.{Within};
 ghost use Rattle.outline.specs.Fills.{closeOf, tableFrom, wordsFrom, Apart, Both, StepFills};
@@ -60,8 +66,8 @@ fn put_entry(s: &mut [u8], at: usize, v: Vertex, count: u32) -> usize
 fn put_header(s: &mut [u8], grade: u32, n: u32, m: u32) -> usize
     ensures { λ r. ⌜ Runs put fourBytes (now (s .entry)) 0 (headerOf grade n m) (now (s .exit)) r ⌝ }
 {
-    let a = put_word(s, 0, 1);
-    let b = put_word(s, a, 0);
+    let a = put_word(s, 0, FIRST_EDITION);
+    let b = put_word(s, a, STROKE_KIND);
     let c = put_word(s, b, grade);
     let d = put_word(s, c, n);
     put_word(s, d, m)
@@ -125,16 +131,16 @@ fn fill_from(
 // The whole table and all bodies.
 fn fill(path: &[i32], n: usize, grade: u32, own: &mut [i32], s: &mut [u8]) -> usize
     requires { ⌜ (n ≡ length (pathOf (now path))) × Within grade (pathOf (now path)) × (36908 ≤ length (now own)) ⌝ }
-    ensures { λ r. ⌜ Both (now (s .entry)) 20 (tableOf (pathOf (now (path .entry))) (bodiesOf grade (pathOf (now (path .entry))))) (24 + 16 * n) (bodyWords (edgesOf grade (pathOf (now (path .entry))))) (now (s .exit)) r ⌝ }
+    ensures { λ r. ⌜ Both (now (s .entry)) headerBytes (tableOf (pathOf (now (path .entry))) (bodiesOf grade (pathOf (now (path .entry))))) (frontBytes n) (bodyWords (edgesOf grade (pathOf (now (path .entry))))) (now (s .exit)) r ⌝ }
 {
-    let base = 24 + 16 * n;
+    let base = LEAST + ENTRY * n;
     if n == 0 {
-        put_word(s, 20, 0);
+        put_word(s, HEADER, 0);
         return base;
     }
     let t = step(grade);
     let a = vertex(path, 0);
-    let table = put_entry(s, 20, a, 0);
+    let table = put_entry(s, HEADER, a, 0);
     let start = Filling {
         walk: Walk::new(a),
         table: table,

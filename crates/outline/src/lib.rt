@@ -4,6 +4,7 @@ pub mod compare;
 pub mod drawing;
 pub mod filling;
 pub mod keeping;
+pub mod layout;
 pub mod path_rows;
 pub mod reading;
 pub mod replacing;

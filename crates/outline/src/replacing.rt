@@ -4,6 +4,9 @@ use crate::Refusal;
 use crate::Replaced;
 use crate::check::Checked;
 use crate::check::check;
+use crate::layout::EDGE;
+use crate::layout::ENTRY;
+use crate::layout::LEAST;
 use crate::rewriting::rewrite;
 use variable_stroke::Vertex;
 use variable_stroke::paths::allowed;
@@ -72,7 +75,7 @@ pub fn change(
     }
     put_vertex(path, index, v);
     let numbers = 3 * n;
-    let old = 24 + 16 * n + 16 * m;
+    let old = LEAST + ENTRY * n + EDGE * m;
     replaced(rewrite(&path[0..numbers], n, grade, old, own, store))
 }
 

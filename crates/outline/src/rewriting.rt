@@ -2,6 +2,9 @@
 use crate::Kept;
 use crate::Refusal;
 use crate::filling::outline;
+use crate::layout::EDGE;
+use crate::layout::ENTRY;
+use crate::layout::LEAST;
 use crate::words::put_byte;
 use plane::direction::step;
 use variable_stroke::paths::walk;
@@ -47,7 +50,7 @@ pub fn rewrite(
     ensures { λ r. ⌜ Rewrites (now (s .entry)) (outlineBytes grade (pathOf (now (path .entry)))) old r (now (s .exit)) ⌝ }
 {
     let m = count(path, n, grade);
-    let needed = 24 + 16 * n + 16 * m;
+    let needed = LEAST + ENTRY * n + EDGE * m;
     if s.len() < needed {
         return Kept::Refused(Refusal::NoRoom(needed));
     }

@@ -2,9 +2,10 @@
 use borrow.Author.Needs.{needs}
 use native.Mathlib.Omega.{arith}
 use Rattle.variable_stroke.specs.Paths.{pathOf}
-use Rattle.outline.proofs.FirstByte.{end-edges, edges-word, first-head, first-table, first-bodies}
+use Rattle.outline.proofs.FirstByte.{end-edges, first-head, first-table, first-bodies}
 use Rattle.outline.proofs.OneWord.{word-room}
 use Rattle.outline.proofs.Parts.{header-run}
+use Rattle.outline.proofs.Whole.{few-edges}
 use Rattle.outline.proofs.check.first_difference.Statement.{statement}
 use Rattle.outline.proofs.check.first_difference.Tie as tie
 
@@ -33,7 +34,7 @@ same-word-requires-4 : tie.Need-same-word-requires-4
 same-word-requires-4 c κs = word-room _ (omega arith)
 
 cast-same-word-2 : tie.Need-cast-same-word-2
-cast-same-word-2 c = omega (arith, end-edges _ (pathOf (c .before .before .before .before .before .before .args .path .now)) (c .before .before .before .before .before .before .pre .2) (c .before .before .before .before .before .before .pre .0), edges-word (c .before .before .before .before .before .before .args .grade) (pathOf (c .before .before .before .before .before .before .args .path .now)) (omega (arith, c .before .before .before .before .before .before .pre .0, c .before .before .before .before .before .before .pre .1)))
+cast-same-word-2 c = omega (arith, end-edges _ (pathOf (c .before .before .before .before .before .before .args .path .now)) (c .before .before .before .before .before .before .pre .2) (c .before .before .before .before .before .before .pre .0), few-edges (c .before .before .before .before .before .before .args .grade) (pathOf (c .before .before .before .before .before .before .args .path .now)) (omega (arith, c .before .before .before .before .before .before .pre .0, c .before .before .before .before .before .before .pre .1)))
 
 same-word-requires-5 : tie.Need-same-word-requires-5
 same-word-requires-5 c κs = word-room _ (omega arith)

@@ -9,6 +9,7 @@ use Rattle.runs.proofs.Onward.{Onward, onward-start, onward-step, onward-as, on
 use Rattle.runs.proofs.Written.{onward-length}
 use Rattle.runs.specs.Runs.{put}
 use Rattle.variable_stroke.specs.Paths.{vertexNumbers}
+use Rattle.outline.specs.Layout.{headerWords}
 use Rattle.outline.specs.StoreChecks.{shownIn}
 use Rattle.outline.specs.Stores.{wordsIn}
 use Rattle.outline.proofs.Shown.{shown-next, shown-end}
@@ -16,13 +17,13 @@ use Rattle.outline.proofs.check.show_path.Statement.{statement}
 use Rattle.outline.proofs.check.show_path.Tie as tie
 
 abbrev Inv-loop : tie.InvT-loop
-Inv-loop s n out₀ k₀ out k = (k ≤ n) × Onward put vertexNumbers out₀ 0 (shownIn n (drop 5 (wordsIn s))) out (3 * k) (shownIn (n - k) (drop (5 + 4 * k) (wordsIn s)))
+Inv-loop s n out₀ k₀ out k = (k ≤ n) × Onward put vertexNumbers out₀ 0 (shownIn n (drop headerWords (wordsIn s))) out (3 * k) (shownIn (n - k) (drop (5 + 4 * k) (wordsIn s)))
 
 abbrev μ-loop : tie.MeasureT-loop
 μ-loop s n out₀ k₀ out k = n - k
 
 loop-holds : tie.Need-loop-holds Inv-loop μ-loop
-loop-holds c = (omega arith, onward-as (ap (λ k. shownIn k (drop 5 (wordsIn (c .before .args .s .now)))) (sym (sub-zero (c .before .args .n)))) onward-start)
+loop-holds c = (omega arith, onward-as (ap (λ k. shownIn k (drop headerWords (wordsIn (c .before .args .s .now)))) (sym (sub-zero (c .before .args .n)))) onward-start)
 
 show-vertex-requires : tie.Need-show-vertex-requires Inv-loop μ-loop
 show-vertex-requires c κs = (omega (arith, c .before .before .before .before .pre .0), omega (arith, c .before .before .before .before .pre .1, onward-length (c .before .before .loop .inv .1)))

@@ -6,11 +6,11 @@ use Rattle.outline.proofs.Shown.{vertex-shown}
 use Rattle.outline.proofs.check.show_vertex.Statement.{statement}
 use Rattle.outline.proofs.check.show_vertex.Tie as tie
 
-mul-word-at : tie.Need-mul-word-at
-mul-word-at c = search needs
+mul-entry : tie.Need-mul-entry
+mul-entry c = search needs
 
-add-word-at : tie.Need-add-word-at
-add-word-at c = search needs
+add-entry : tie.Need-add-entry
+add-entry c = search needs
 
 word-at-requires : tie.Need-word-at-requires
 word-at-requires c κs = search needs
@@ -18,11 +18,8 @@ word-at-requires c κs = search needs
 signed-requires : tie.Need-signed-requires
 signed-requires c κs = search needs
 
-mul-word-at-2 : tie.Need-mul-word-at-2
-mul-word-at-2 c = search needs
-
-add-word-at-2 : tie.Need-add-word-at-2
-add-word-at-2 c = search needs
+add-word-at : tie.Need-add-word-at
+add-word-at c = search needs
 
 word-at-requires-2 : tie.Need-word-at-requires-2
 word-at-requires-2 c κs = search needs
@@ -30,11 +27,8 @@ word-at-requires-2 c κs = search needs
 signed-requires-2 : tie.Need-signed-requires-2
 signed-requires-2 c κs = search needs
 
-mul-word-at-3 : tie.Need-mul-word-at-3
-mul-word-at-3 c = search needs
-
-add-word-at-3 : tie.Need-add-word-at-3
-add-word-at-3 c = search needs
+add-word-at-2 : tie.Need-add-word-at-2
+add-word-at-2 c = search needs
 
 word-at-requires-3 : tie.Need-word-at-requires-3
 word-at-requires-3 c κs = search needs
@@ -79,16 +73,14 @@ pub show-vertex-spec : {M : Type 1} → statement M
 show-vertex-spec =
     tie.close
     (tie.spec
-    mul-word-at
-    add-word-at
+    mul-entry
+    add-entry
     word-at-requires
     signed-requires
-    mul-word-at-2
-    add-word-at-2
+    add-word-at
     word-at-requires-2
     signed-requires-2
-    mul-word-at-3
-    add-word-at-3
+    add-word-at-2
     word-at-requires-3
     signed-requires-3
     mul-at

@@ -1,21 +1,23 @@
 -- `outline::compare::compare` meets its contract: what is left of the path is compared on, vertex by vertex, by a walk that stays within the limits. Assumes nothing.
 use mathlib.Core.Path.{_≡_, refl}
-use Prim.Native.Nat.{_+_, _-_, _*_, _≤_}
+use Prim.Native.Nat.{_-_, _≤_}
 use native.Mathlib.Omega.{arith}
 use lib.ListN.{length}
 use Rattle.variable_stroke.proofs.PathWalk.{some}
 use Rattle.variable_stroke.specs.Paths.{pathOf}
-use Rattle.outline.proofs.Comparisons.{vertex-inside, Going, going-start, going-step, going-entry, going-at, going-end, meets-none}
+use Rattle.outline.specs.Layout.{frontBytes}
+use Rattle.outline.proofs.Comparisons.{Going, going-start, going-step, going-entry, going-at, going-end, meets-none}
 use Rattle.outline.proofs.OneWord.{word-room}
+use Rattle.outline.proofs.Parts.{inside-at}
 use Rattle.plane.proofs.Directions.{step-unit}
 use Rattle.outline.proofs.compare.compare.Statement.{statement}
 use Rattle.outline.proofs.compare.compare.Tie as tie
 
 abbrev Inv-loop : tie.InvT-loop
-Inv-loop path n grade own₀ s base t first c₀ k₀ own c k = (k ≤ n) × (length own ≡ length own₀) × Going grade s (pathOf path) (24 + 16 * n) k c
+Inv-loop path n grade own₀ s base t first second c₀ k₀ own c k = (k ≤ n) × (length own ≡ length own₀) × Going grade s (pathOf path) (frontBytes n) k c
 
 abbrev μ-loop : tie.MeasureT-loop
-μ-loop path n grade own₀ s base t first c₀ k₀ own c k = n - k
+μ-loop path n grade own₀ s base t first second c₀ k₀ own c k = n - k
 
 mul-base : tie.Need-mul-base Inv-loop μ-loop
 mul-base c = omega (arith, c .before .pre .0, c .before .pre .1 .count)
@@ -36,7 +38,10 @@ vertex-requires : tie.Need-vertex-requires Inv-loop μ-loop
 vertex-requires c κs = omega (arith, c .before .before .before .pre .0, some _ (c .before .if1 .left))
 
 same-entry-requires : tie.Need-same-entry-requires Inv-loop μ-loop
-same-entry-requires c κs = (vertex-inside (pathOf (c .before .before .before .before .args .path .now)) 0 (c .before .before .before .before .pre .1 .inside) (omega (arith, c .before .before .before .before .pre .0, some _ (c .before .before .if1 .left))) (c .vertex .ensures), omega arith)
+same-entry-requires c κs = (inside-at (pathOf (c .before .before .before .before .args .path .now)) 0 (c .before .before .before .before .pre .1 .inside) (omega (arith, c .before .before .before .before .pre .0, some _ (c .before .before .if1 .left))) (c .vertex .ensures), omega arith)
+
+add-second : tie.Need-add-second Inv-loop μ-loop
+add-second c = omega arith
 
 new-requires : tie.Need-new-requires Inv-loop μ-loop
 new-requires c κs = tt
@@ -48,7 +53,7 @@ vertex-requires-2 : tie.Need-vertex-requires-2 Inv-loop μ-loop
 vertex-requires-2 c κs = omega (arith, c .before .before .before .before .before .before .before .before .pre .0, c .loop-test .taken)
 
 compare-step-requires : tie.Need-compare-step-requires Inv-loop μ-loop
-compare-step-requires c κs = ((step-unit _ (c .before .before .before .before .before .before .before .step .ensures), c .before .before .before .loop .inv .2 .around, vertex-inside (pathOf (c .before .before .before .before .before .before .before .before .before .before .args .path .now)) (c .before .before .before .loop .k) (c .before .before .before .before .before .before .before .before .before .before .pre .1 .inside) (omega (arith, c .before .before .before .before .before .before .before .before .before .before .pre .0, c .before .before .loop-test .taken)) (c .before .vertex2 .ensures), omega (arith, c .before .before .before .before .before .before .before .before .before .before .pre .2, c .before .before .before .loop .inv .1)), (going-entry (pathOf (c .before .before .before .before .before .before .before .before .before .before .args .path .now)) (c .before .before .before .before .before .before .before .before .before .before .pre .1 .count) (omega (arith, c .before .before .before .before .before .before .before .before .before .before .pre .0)) (c .before .before .before .loop .inv .2), going-at (pathOf (c .before .before .before .before .before .before .before .before .before .before .args .path .now)) (c .before .before .before .before .before .before .before .before .before .before .pre .1 .count) (omega (arith, c .before .before .before .before .before .before .before .before .before .before .pre .0)) (c .before .before .before .loop .inv .2)))
+compare-step-requires c κs = ((step-unit _ (c .before .before .before .before .before .before .before .step .ensures), c .before .before .before .loop .inv .2 .around, inside-at (pathOf (c .before .before .before .before .before .before .before .before .before .before .args .path .now)) (c .before .before .before .loop .k) (c .before .before .before .before .before .before .before .before .before .before .pre .1 .inside) (omega (arith, c .before .before .before .before .before .before .before .before .before .before .pre .0, c .before .before .loop-test .taken)) (c .before .vertex2 .ensures), omega (arith, c .before .before .before .before .before .before .before .before .before .before .pre .2, c .before .before .before .loop .inv .1)), (going-entry (pathOf (c .before .before .before .before .before .before .before .before .before .before .args .path .now)) (c .before .before .before .before .before .before .before .before .before .before .pre .1 .count) (omega (arith, c .before .before .before .before .before .before .before .before .before .before .pre .0)) (c .before .before .before .loop .inv .2), going-at (pathOf (c .before .before .before .before .before .before .before .before .before .before .args .path .now)) (c .before .before .before .before .before .before .before .before .before .before .pre .1 .count) (omega (arith, c .before .before .before .before .before .before .before .before .before .before .pre .0)) (c .before .before .before .loop .inv .2)))
 
 add-k : tie.Need-add-k Inv-loop μ-loop
 add-k c = omega (arith, c .before .before .before .before .before .before .before .before .before .before .before .before .pre .0, c .before .before .before .before .before .before .before .before .before .before .before .before .pre .1 .count, c .before .before .before .before .loop-test .taken)
@@ -81,6 +86,7 @@ compare-spec =
     step-requires
     vertex-requires
     same-entry-requires
+    add-second
     new-requires
     loop-holds
     vertex-requires-2

@@ -1,5 +1,4 @@
 -- `outline::drawing::draw_path` meets its contract: the walk over scratch counts, the walk over the room writes. Assumes nothing.
-use mathlib.Core.Path.{sym}
 use borrow.Author.Needs.{needs}
 use native.Mathlib.Omega.{arith}
 use Rattle.plane.proofs.Directions.{step-unit}
