@@ -4,17 +4,17 @@ use mathlib.Core.Bool.{true, false}
 use mathlib.Core.List.{List, [], _∷_}
 use Prim.Native.Nat.{ℕ, zero, suc, _+_, _-_, _*_, _/_, _%_, _^_, _≤_, _<_}
 use native.Mathlib.Nat.{zero-add}
-use native.Mathlib.Numerals.{add-one, add-two, add-three, sub-one}
+use native.Mathlib.Numerals.{add-one, add-two, add-three}
 use native.Mathlib.Omega.{arith}
 use borrow.Author.Tests.{lt-ltb, le-ltb, ltb-true}
-use lib.Dec.{ltb}
 use lib.IntN.{ℤ, pos, negsuc, natAbs, _-ℤ_}
 use lib.Signed.{ltZ}
 use lib.ListN.{length, getD}
-use mir.Syntax.{w32}
-use mir.Val.{SFits, toZ, ofZ}
-use mir.Facts.{toZ-ofZ, toZ-pos, sfits-toZ}
-use Rattle.runs.specs.Runs.{spread, over, Runs, Room}
+use mir.Syntax.{w8, w32}
+use mir.Val.{Fits, SFits, toZ, ofZ}
+use mir.Facts.{toZ-ofZ, toZ-pos}
+use Rattle.runs.specs.Runs.{spread, over, Runs, Room, agree}
+use Rattle.runs.proofs.Agreed.{agree-same}
 use Rattle.outline.specs.Words.{wordOf, numberOf, fourBytes}
 use Rattle.outline.specs.Stores.{wordsIn, wordAt}
 
@@ -34,6 +34,23 @@ pub word-run : {S : Type 0} {f : S → ℕ → ℕ → S} {s₀ s₁ s₂ s₃ s
     → Runs f fourBytes s₀ at (w ∷ []) s₄ (at + 4)
 unfolding spread over fourBytes
 word-run {at = at} w p q r s = record { out = cc (add-one at, add-two at, add-three at); pos = refl }
+
+-- four bytes that make up a word are its bytes
+pub word-bytes : (a b c d w : ℕ) → a < 256 → b < 256 → c < 256 → d < 256 → a + 256 * b + 65536 * c + 16777216 * d ≡ w
+    → (a ≡ w % 256) × (b ≡ w / 256 % 256) × (c ≡ w / 65536 % 256) × (d ≡ w / 16777216 % 256)
+word-bytes a b c d w ha hb hc hd e = (omega arith, omega arith, omega arith, omega arith)
+
+-- and where they stand at once in a store that has agreed so far, it agrees to the word
+module _ (s : List ℕ) {ok at w : ℕ} (e : ok ≡ at) (l : at + 4 ≤ length s) (small : (i : ℕ) → Fits w8 (getD s i 0))
+    (h : getD s at 0 + 256 * getD s (at + 1) 0 + 65536 * getD s (at + 2) 0 + 16777216 * getD s (at + 3) 0 ≡ w) where
+  pub word-same : Runs (agree s) fourBytes ok at (w ∷ []) (at + 4) (at + 4)
+  word-same =
+      let p = word-bytes _ _ _ _ w (small at .fits) (small (at + 1) .fits) (small (at + 2) .fits) (small (at + 3) .fits) h in
+      word-run w
+      (ap (λ k. k + 1) (sym e) ∙ agree-same s ok at _ e (omega arith) (p .0))
+      (omega arith ∙ agree-same s (at + 1) (at + 1) _ refl (omega arith) (p .1))
+      (omega arith ∙ agree-same s (at + 2) (at + 2) _ refl (omega arith) (p .2))
+      (omega arith ∙ agree-same s (at + 3) (at + 3) _ refl (omega arith) (p .3))
 
 -- read where they stand
 pub word-here : (s : List ℕ) (i : ℕ) → 4 * i + 4 ≤ length s

@@ -18,8 +18,8 @@ pub fn put_byte(s: &mut [u8], i: usize, b: u8)
     }
 }
 
-// One word. Bytes past the room are not written; the position goes on all the same.
-pub fn put_word(s: &mut [u8], at: usize, w: u32) -> usize
+// One word, byte by byte, where the room may end within it.
+fn put_each(s: &mut [u8], at: usize, w: u32) -> usize
     requires { ⌜ Room fourBytes at (w ∷ []) ⌝ }
     ensures { λ r. ⌜ Runs put fourBytes (now (s .entry)) at (w ∷ []) (now (s .exit)) r ⌝ }
 {
@@ -27,6 +27,21 @@ pub fn put_word(s: &mut [u8], at: usize, w: u32) -> usize
     put_byte(s, at + 1, (w / 256 % 256) as u8);
     put_byte(s, at + 2, (w / 65536 % 256) as u8);
     put_byte(s, at + 3, (w / 16777216 % 256) as u8);
+    at + 4
+}
+
+// One word. Bytes past the room are not written; the position goes on all the same.
+pub fn put_word(s: &mut [u8], at: usize, w: u32) -> usize
+    requires { ⌜ Room fourBytes at (w ∷ []) ⌝ }
+    ensures { λ r. ⌜ Runs put fourBytes (now (s .entry)) at (w ∷ []) (now (s .exit)) r ⌝ }
+{
+    if s.len() < at + 4 {
+        return put_each(s, at, w);
+    }
+    s[at] = (w % 256) as u8;
+    s[at + 1] = (w / 256 % 256) as u8;
+    s[at + 2] = (w / 65536 % 256) as u8;
+    s[at + 3] = (w / 16777216 % 256) as u8;
     at + 4
 }
 
@@ -46,8 +61,8 @@ pub fn same_byte(s: &[u8], ok: usize, at: usize, b: u8) -> usize
     ok
 }
 
-// One word more compared.
-pub fn same_word(s: &[u8], ok: usize, at: usize, w: u32) -> usize
+// One word more compared, byte by byte.
+fn same_each(s: &[u8], ok: usize, at: usize, w: u32) -> usize
     requires { ⌜ Room fourBytes at (w ∷ []) ⌝ }
     ensures { λ r. ⌜ Runs (agree (now (s .entry))) fourBytes ok at (w ∷ []) r (at + 4) ⌝ }
 {
@@ -62,6 +77,24 @@ fn word(a: u8, b: u8, c: u8, d: u8) -> u32
     ensures { λ r. ⌜ r ≡ a + 256 * b + 65536 * c + 16777216 * d ⌝ }
 {
     a as u32 + 256 * (b as u32) + 65536 * (c as u32) + 16777216 * (d as u32)
+}
+
+// One word more compared: at once where all before it agrees and it does.
+pub fn same_word(s: &[u8], ok: usize, at: usize, w: u32) -> usize
+    requires { ⌜ Room fourBytes at (w ∷ []) ⌝ }
+    ensures { λ r. ⌜ Runs (agree (now (s .entry))) fourBytes ok at (w ∷ []) r (at + 4) ⌝ }
+{
+    let end = at + 4;
+    if ok != at {
+        return same_each(s, ok, at, w);
+    }
+    if s.len() < end {
+        return same_each(s, ok, at, w);
+    }
+    if word(s[at], s[at + 1], s[at + 2], s[at + 3]) != w {
+        return same_each(s, ok, at, w);
+    }
+    end
 }
 
 // The i-th word.

@@ -1,7 +1,6 @@
 -- `outline::words::bits` meets its contract: a number of 32 bits widened is itself. Assumes nothing.
 use mathlib.Core.Path.{_∙_, ap}
 use mathlib.Core.Path.{_≡_, _∙_, ap}
-use Prim.Native.Nat.{_^_}
 use native.Mathlib.Omega.{arith}
 use mir.Facts.{toZ-ofZ}
 use mir.Syntax.{w32, w64}

@@ -1,67 +1,85 @@
 -- `outline::words::put_word` meets its contract: the four bytes are put in their order. Assumes nothing.
 use borrow.Author.Needs.{needs}
 use native.Mathlib.Omega.{arith}
+use mathlib.Core.Path.{refl}
+use lib.ListN.{length-set}
 use Rattle.outline.proofs.OneWord.{room-word, word-run}
 use Rattle.outline.proofs.words.put_word.Statement.{statement}
 use Rattle.outline.proofs.words.put_word.Tie as tie
 
-cast-put-byte : tie.Need-cast-put-byte
-cast-put-byte c = search needs
+add-if1 : tie.Need-add-if1
+add-if1 c = omega (arith, room-word _ (c .before .pre))
 
-put-byte-requires : tie.Need-put-byte-requires
-put-byte-requires c κs = search needs
-
-add-put-byte : tie.Need-add-put-byte
-add-put-byte c = omega (arith, room-word _ (c .before .before .before .before .before .before .pre))
-
-cast-put-byte-2 : tie.Need-cast-put-byte-2
-cast-put-byte-2 c = search needs
-
-put-byte-requires-2 : tie.Need-put-byte-requires-2
-put-byte-requires-2 c κs = search needs
-
-add-put-byte-2 : tie.Need-add-put-byte-2
-add-put-byte-2 c = omega (arith, room-word _ (c .before .before .before .before .before .before .before .before .before .before .pre))
-
-cast-put-byte-3 : tie.Need-cast-put-byte-3
-cast-put-byte-3 c = search needs
-
-put-byte-requires-3 : tie.Need-put-byte-requires-3
-put-byte-requires-3 c κs = search needs
-
-add-put-byte-3 : tie.Need-add-put-byte-3
-add-put-byte-3 c = omega (arith, room-word _ (c .before .before .before .before .before .before .before .before .before .before .before .before .before .before .pre))
-
-cast-put-byte-4 : tie.Need-cast-put-byte-4
-cast-put-byte-4 c = search needs
-
-put-byte-requires-4 : tie.Need-put-byte-requires-4
-put-byte-requires-4 c κs = search needs
-
-add-result : tie.Need-add-result
-add-result c = omega (arith, room-word _ (c .before .before .before .before .before .before .before .before .before .before .before .before .before .before .before .before .before .pre))
+put-each-requires : tie.Need-put-each-requires
+put-each-requires c κs = search needs
 
 same-length : tie.Need-same-length
 same-length c = search needs
 
 returns : tie.Need-returns
-returns c = word-run (c .before .before .before .before .before .before .before .before .before .before .before .before .before .before .before .before .before .args .w) (c .before .before .before .before .before .before .before .before .before .before .before .before .before .before .put-byte .ensures) (c .before .before .before .before .before .before .before .before .before .before .put-byte2 .ensures) (c .before .before .before .before .before .before .put-byte3 .ensures) (c .before .before .put-byte4 .ensures)
+returns c = search needs
+
+cast-s : tie.Need-cast-s
+cast-s c = search needs
+
+slice-write-s : tie.Need-slice-write-s
+slice-write-s c = search needs
+
+cast-s-2 : tie.Need-cast-s-2
+cast-s-2 c = search needs
+
+add-s : tie.Need-add-s
+add-s c = search needs
+
+slice-write-s-2 : tie.Need-slice-write-s-2
+slice-write-s-2 c = simp length-set (omega (arith, c .if1 .left))
+
+cast-s-3 : tie.Need-cast-s-3
+cast-s-3 c = search needs
+
+add-s-2 : tie.Need-add-s-2
+add-s-2 c = search needs
+
+slice-write-s-3 : tie.Need-slice-write-s-3
+slice-write-s-3 c = simp length-set (omega (arith, c .if1 .left))
+
+cast-s-4 : tie.Need-cast-s-4
+cast-s-4 c = search needs
+
+add-s-3 : tie.Need-add-s-3
+add-s-3 c = search needs
+
+slice-write-s-4 : tie.Need-slice-write-s-4
+slice-write-s-4 c = simp length-set (omega (arith, c .if1 .left))
+
+add-result : tie.Need-add-result
+add-result c = search needs
+
+same-length-2 : tie.Need-same-length-2
+same-length-2 c = search needs
+
+returns-2 : tie.Need-returns-2
+returns-2 c = word-run (c .before .before .args .w) refl refl refl refl
 
 pub put-word-spec : {M : Type 1} → statement M
 put-word-spec =
     tie.close
     (tie.spec
-    cast-put-byte
-    put-byte-requires
-    add-put-byte
-    cast-put-byte-2
-    put-byte-requires-2
-    add-put-byte-2
-    cast-put-byte-3
-    put-byte-requires-3
-    add-put-byte-3
-    cast-put-byte-4
-    put-byte-requires-4
-    add-result
+    add-if1
+    put-each-requires
     same-length
-    returns)
+    returns
+    cast-s
+    slice-write-s
+    cast-s-2
+    add-s
+    slice-write-s-2
+    cast-s-3
+    add-s-2
+    slice-write-s-3
+    cast-s-4
+    add-s-3
+    slice-write-s-4
+    add-result
+    same-length-2
+    returns-2)

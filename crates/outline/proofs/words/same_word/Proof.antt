@@ -1,59 +1,75 @@
--- `outline::words::same_word` meets its contract: the four bytes are compared in their order. Assumes nothing.
+-- `outline::words::same_word` meets its contract: four bytes that make up the word agree to it, and else each is compared. Assumes nothing.
 use borrow.Author.Needs.{needs}
 use native.Mathlib.Omega.{arith}
-use Rattle.outline.proofs.OneWord.{room-word, word-run}
+use Rattle.outline.proofs.OneWord.{room-word, word-same}
 use Rattle.outline.proofs.words.same_word.Statement.{statement}
 use Rattle.outline.proofs.words.same_word.Tie as tie
 
-cast-same-byte : tie.Need-cast-same-byte
-cast-same-byte c = search needs
+add-end : tie.Need-add-end
+add-end c = omega (arith, room-word _ (c .before .pre))
 
-same-byte-requires : tie.Need-same-byte-requires
-same-byte-requires c κs = search needs
-
-add-same-byte : tie.Need-add-same-byte
-add-same-byte c = omega (arith, room-word _ (c .before .before .pre))
-
-cast-same-byte-2 : tie.Need-cast-same-byte-2
-cast-same-byte-2 c = search needs
-
-same-byte-requires-2 : tie.Need-same-byte-requires-2
-same-byte-requires-2 c κs = search needs
-
-add-same-byte-2 : tie.Need-add-same-byte-2
-add-same-byte-2 c = omega (arith, room-word _ (c .before .before .before .pre))
-
-cast-same-byte-3 : tie.Need-cast-same-byte-3
-cast-same-byte-3 c = search needs
-
-same-byte-requires-3 : tie.Need-same-byte-requires-3
-same-byte-requires-3 c κs = search needs
-
-add-same-byte-3 : tie.Need-add-same-byte-3
-add-same-byte-3 c = omega (arith, room-word _ (c .before .before .before .before .pre))
-
-cast-same-byte-4 : tie.Need-cast-same-byte-4
-cast-same-byte-4 c = search needs
-
-same-byte-requires-4 : tie.Need-same-byte-requires-4
-same-byte-requires-4 c κs = search needs
+same-each-requires : tie.Need-same-each-requires
+same-each-requires c κs = search needs
 
 returns : tie.Need-returns
-returns c = word-run (c .before .before .before .before .before .args .w) (c .before .before .before .same-byte .ensures) (c .before .before .same-byte2 .ensures) (c .before .same-byte3 .ensures) (c .same-byte4 .ensures)
+returns c = search needs
+
+same-each-requires-2 : tie.Need-same-each-requires-2
+same-each-requires-2 c κs = search needs
+
+returns-2 : tie.Need-returns-2
+returns-2 c = search needs
+
+shared-slice-read-word : tie.Need-shared-slice-read-word
+shared-slice-read-word c = search needs
+
+add-word : tie.Need-add-word
+add-word c = search needs
+
+shared-slice-read-word-2 : tie.Need-shared-slice-read-word-2
+shared-slice-read-word-2 c = search needs
+
+add-word-2 : tie.Need-add-word-2
+add-word-2 c = search needs
+
+shared-slice-read-word-3 : tie.Need-shared-slice-read-word-3
+shared-slice-read-word-3 c = search needs
+
+add-word-3 : tie.Need-add-word-3
+add-word-3 c = search needs
+
+shared-slice-read-word-4 : tie.Need-shared-slice-read-word-4
+shared-slice-read-word-4 c = search needs
+
+word-requires : tie.Need-word-requires
+word-requires c κs = search needs
+
+same-each-requires-3 : tie.Need-same-each-requires-3
+same-each-requires-3 c κs = search needs
+
+returns-3 : tie.Need-returns-3
+returns-3 c = search needs
+
+returns-4 : tie.Need-returns-4
+returns-4 c = word-same (c .before .before .before .before .before .before .before .before .before .args .s .now) (omega arith) (omega (arith, c .before .before .before .before .before .before .if2 .left)) (c .before .before .before .before .before .before .before .before .shared-slice-known .given) (omega (arith, c .before .word .ensures, c .if3 .left))
 
 pub same-word-spec : {M : Type 1} → statement M
 same-word-spec =
     tie.close
     (tie.spec
-    cast-same-byte
-    same-byte-requires
-    add-same-byte
-    cast-same-byte-2
-    same-byte-requires-2
-    add-same-byte-2
-    cast-same-byte-3
-    same-byte-requires-3
-    add-same-byte-3
-    cast-same-byte-4
-    same-byte-requires-4
-    returns)
+    add-end
+    same-each-requires
+    returns
+    same-each-requires-2
+    returns-2
+    shared-slice-read-word
+    add-word
+    shared-slice-read-word-2
+    add-word-2
+    shared-slice-read-word-3
+    add-word-3
+    shared-slice-read-word-4
+    word-requires
+    same-each-requires-3
+    returns-3
+    returns-4)

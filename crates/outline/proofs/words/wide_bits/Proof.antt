@@ -1,11 +1,9 @@
 -- `outline::words::wide_bits` meets its contract: a number below 0 has the word that its size is short of 2^32. Assumes nothing.
-use mathlib.Core.Bool.{true, false}
 use mathlib.Core.Path.{_≡_, _∙_, ap}
 use borrow.Author.Needs.{needs}
 use Prim.Native.Nat.{_-_, _^_, _<_}
 use native.Mathlib.Omega.{arith}
-use lib.IntN.{pos, natAbs}
-use lib.Signed.{ltZ}
+use lib.IntN.{natAbs}
 use Rattle.plane.proofs.Products.{back}
 use Rattle.outline.specs.Words.{wordOf}
 use Rattle.outline.proofs.OneWord.{word-below, word-above}
