@@ -55,37 +55,64 @@ fn calls(names: &[&str]) -> Option<Vec<Call>> {
     }
 }
 
-/// Whether `plain` was built as the archive is: optimised, for any x86-64
-/// processor.
+/// Whether `plain` was built as the library is: optimised, for any processor
+/// of its kind.
 fn fair() -> Result<(), &'static str> {
     if cfg!(debug_assertions) {
         return Err("plain is not optimised in this build: cargo run --release");
     }
-    if cfg!(target_feature = "sse3") {
-        return Err("plain is built for a newer processor than the archive: unset target-cpu");
+    if cfg!(any(target_feature = "sse3", target_feature = "lse")) {
+        return Err("plain is built for a newer processor than the library: unset target-cpu");
     }
     Ok(())
 }
 
-fn conditions() -> String {
+/// What both were compiled for, and what the library's code is.
+fn code() -> (&'static str, &'static str) {
+    if cfg!(target_arch = "x86_64") {
+        return ("x86-64", "the archive that rt staticlib writes");
+    }
+    (
+        "64-bit Arm",
+        "the archive's LLVM module, compiled for this machine for timing only;\n\
+         the archive itself is for x86-64",
+    )
+}
+
+/// The processor, as the system describes it.
+fn processor() -> String {
     let description = read_to_string("/proc/cpuinfo").unwrap_or_default();
-    let processor = description
-        .lines()
-        .find_map(|line| line.strip_prefix("model name"))
-        .map_or("not known", |rest| {
-            rest.trim_start_matches([' ', '\t', ':'])
-        });
+    let said = |name: &str| {
+        let mut lines = description.lines();
+        let rest = lines.find_map(|line| line.strip_prefix(name))?;
+        Some(rest.trim_start_matches([' ', '\t', ':']).to_string())
+    };
+    let by_number = || {
+        let (maker, part) = (said("CPU implementer")?, said("CPU part")?);
+        Some(format!("implementer {maker}, part {part}"))
+    };
+    said("model name")
+        .or_else(by_number)
+        .unwrap_or("not known".to_string())
+}
+
+fn conditions() -> String {
+    let (machine, code) = code();
     format!(
         "The proved library beside rust/plain: one process, the same inputs, both optimised for\n\
-         any x86-64 processor. A time is the processor time of the best of {LEAST_RUNS} runs or more, the\n\
-         two by turns. Ratio is the library's time over plain's: below 1 the library is faster.\n\
+         any {machine} processor.\n\
+         The library's code is {code}.\n\
+         \n\
+         A time is the processor time of the best of {LEAST_RUNS} runs or more, the two by turns. Ratio is\n\
+         the library's time over plain's: below 1 the library is faster.\n\
          \n\
          Buffers are not cleared between runs: each run writes what the run before it wrote. That\n\
          both give the same replies and the same memory was checked before and after each timing.\n\
          Replace moves the vertex in the middle there and back, and its time is half of that. The\n\
          library allocates nothing; plain's time includes the memory that it allocates.\n\
          \n\
-         Processor: {processor}."
+         Processor: {}.",
+        processor()
     )
 }
 
