@@ -16,7 +16,7 @@ use mir.Facts.{toZ-ofZ, toZ-pos}
 use Rattle.runs.specs.Runs.{spread, over, Runs, Room, agree}
 use Rattle.runs.proofs.Agreed.{agree-same}
 use Rattle.outline.specs.Words.{wordOf, numberOf, fourBytes}
-use Rattle.outline.specs.Stores.{wordsIn, wordAt}
+use Rattle.outline.specs.Stores.{wordFrom, wordsIn, wordAt}
 
 -- ---- four bytes
 
@@ -42,8 +42,9 @@ word-bytes a b c d w ha hb hc hd e = (omega arith, omega arith, omega arith, ome
 
 -- and where they stand at once in a store that has agreed so far, it agrees to the word
 module _ (s : List ℕ) {ok at w : ℕ} (e : ok ≡ at) (l : at + 4 ≤ length s) (small : (i : ℕ) → Fits w8 (getD s i 0))
-    (h : getD s at 0 + 256 * getD s (at + 1) 0 + 65536 * getD s (at + 2) 0 + 16777216 * getD s (at + 3) 0 ≡ w) where
+    (h : wordFrom s at ≡ w) where
   pub word-same : Runs (agree s) fourBytes ok at (w ∷ []) (at + 4) (at + 4)
+  unfolding wordFrom
   word-same =
       let p = word-bytes _ _ _ _ w (small at .fits) (small (at + 1) .fits) (small (at + 2) .fits) (small (at + 3) .fits) h in
       word-run w
@@ -54,8 +55,8 @@ module _ (s : List ℕ) {ok at w : ℕ} (e : ok ≡ at) (l : at + 4 ≤ length s
 
 -- read where they stand
 pub word-here : (s : List ℕ) (i : ℕ) → 4 * i + 4 ≤ length s
-    → getD s (4 * i) 0 + 256 * getD s (4 * i + 1) 0 + 65536 * getD s (4 * i + 2) 0 + 16777216 * getD s (4 * i + 3) 0 ≡ wordAt s i
-unfolding wordAt wordsIn
+    → wordFrom s (4 * i) ≡ wordAt s i
+unfolding wordFrom wordAt wordsIn
 word-here [] i h = absurd (omega arith)
 word-here (a ∷ []) i h = absurd (omega arith)
 word-here (a ∷ b ∷ []) i h = absurd (omega arith)

@@ -11,6 +11,10 @@ use Rattle.variable_stroke.specs.declared.Vertex.{Vertex}
 use Rattle.outline.specs.Layout.{headerWords, entryAt, edgeBytes, frontBytes, lengthOf}
 use Rattle.outline.specs.Words.{numberOf, outlineBytes}
 
+-- the word that begins at a byte of a store
+unfoldable pub wordFrom : List ℕ → ℕ → ℕ
+wordFrom store at = getD store at 0 + 256 * getD store (at + 1) 0 + 65536 * getD store (at + 2) 0 + 16777216 * getD store (at + 3) 0
+
 -- the words of a store; bytes left over are none
 unfoldable pub wordsIn : List ℕ → List ℕ
 wordsIn [] = []

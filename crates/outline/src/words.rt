@@ -7,7 +7,7 @@ ghost use lib.ListN.{length, set};
 ghost use Rattle.whole.specs.Sizes.{Size};
 ghost use Rattle.runs.specs.Runs.{Runs, Room, put, agree};
 ghost use Rattle.outline.specs.Words.{wordOf, numberOf, fourBytes};
-ghost use Rattle.outline.specs.Stores.{wordAt};
+ghost use Rattle.outline.specs.Stores.{wordFrom, wordAt};
 
 // The byte b at i, where i is inside the room; nothing past it.
 pub fn put_byte(s: &mut [u8], i: usize, b: u8)
@@ -79,6 +79,14 @@ fn word(a: u8, b: u8, c: u8, d: u8) -> u32
     a as u32 + 256 * (b as u32) + 65536 * (c as u32) + 16777216 * (d as u32)
 }
 
+// The word that begins at a byte.
+fn word_from(s: &[u8], at: usize) -> u32
+    requires { ⌜ at + 4 ≤ length (now s) ⌝ }
+    ensures { λ r. ⌜ r ≡ wordFrom (now (s .entry)) at ⌝ }
+{
+    word(s[at], s[at + 1], s[at + 2], s[at + 3])
+}
+
 // One word more compared: at once where all before it agrees and it does.
 pub fn same_word(s: &[u8], ok: usize, at: usize, w: u32) -> usize
     requires { ⌜ Room fourBytes at (w ∷ []) ⌝ }
@@ -91,7 +99,7 @@ pub fn same_word(s: &[u8], ok: usize, at: usize, w: u32) -> usize
     if s.len() < end {
         return same_each(s, ok, at, w);
     }
-    if word(s[at], s[at + 1], s[at + 2], s[at + 3]) != w {
+    if word_from(s, at) != w {
         return same_each(s, ok, at, w);
     }
     end
@@ -102,8 +110,7 @@ pub fn word_at(s: &[u8], i: usize) -> u32
     requires { ⌜ 4 * i + 4 ≤ length (now s) ⌝ }
     ensures { λ r. ⌜ r ≡ wordAt (now (s .entry)) i ⌝ }
 {
-    let at = 4 * i;
-    word(s[at], s[at + 1], s[at + 2], s[at + 3])
+    word_from(s, 4 * i)
 }
 
 // The word of a number, in two's complement.

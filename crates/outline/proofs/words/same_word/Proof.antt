@@ -20,29 +20,8 @@ same-each-requires-2 c κs = search needs
 returns-2 : tie.Need-returns-2
 returns-2 c = search needs
 
-shared-slice-read-word : tie.Need-shared-slice-read-word
-shared-slice-read-word c = search needs
-
-add-word : tie.Need-add-word
-add-word c = search needs
-
-shared-slice-read-word-2 : tie.Need-shared-slice-read-word-2
-shared-slice-read-word-2 c = search needs
-
-add-word-2 : tie.Need-add-word-2
-add-word-2 c = search needs
-
-shared-slice-read-word-3 : tie.Need-shared-slice-read-word-3
-shared-slice-read-word-3 c = search needs
-
-add-word-3 : tie.Need-add-word-3
-add-word-3 c = search needs
-
-shared-slice-read-word-4 : tie.Need-shared-slice-read-word-4
-shared-slice-read-word-4 c = search needs
-
-word-requires : tie.Need-word-requires
-word-requires c κs = search needs
+word-from-requires : tie.Need-word-from-requires
+word-from-requires c κs = search needs
 
 same-each-requires-3 : tie.Need-same-each-requires-3
 same-each-requires-3 c κs = search needs
@@ -51,7 +30,7 @@ returns-3 : tie.Need-returns-3
 returns-3 c = search needs
 
 returns-4 : tie.Need-returns-4
-returns-4 c = word-same (c .before .before .before .before .before .before .before .before .before .args .s .now) (omega arith) (omega (arith, c .before .before .before .before .before .before .if2 .left)) (c .before .before .before .before .before .before .before .before .shared-slice-known .given) (omega (arith, c .before .word .ensures, c .if3 .left))
+returns-4 c = word-same (c .before .before .before .before .before .args .s .now) (omega arith) (omega (arith, c .before .before .if2 .left)) (c .before .before .before .before .shared-slice-known .given) (omega (arith, c .before .word-from .ensures, c .if3 .left))
 
 pub same-word-spec : {M : Type 1} → statement M
 same-word-spec =
@@ -62,14 +41,7 @@ same-word-spec =
     returns
     same-each-requires-2
     returns-2
-    shared-slice-read-word
-    add-word
-    shared-slice-read-word-2
-    add-word-2
-    shared-slice-read-word-3
-    add-word-3
-    shared-slice-read-word-4
-    word-requires
+    word-from-requires
     same-each-requires-3
     returns-3
     returns-4)

@@ -5,47 +5,14 @@ use Rattle.outline.proofs.OneWord.{word-here}
 use Rattle.outline.proofs.words.word_at.Statement.{statement}
 use Rattle.outline.proofs.words.word_at.Tie as tie
 
-mul-at : tie.Need-mul-at
-mul-at c = search needs
+mul-word-from : tie.Need-mul-word-from
+mul-word-from c = search needs
 
-shared-slice-read-word : tie.Need-shared-slice-read-word
-shared-slice-read-word c = search needs
-
-add-word : tie.Need-add-word
-add-word c = search needs
-
-shared-slice-read-word-2 : tie.Need-shared-slice-read-word-2
-shared-slice-read-word-2 c = search needs
-
-add-word-2 : tie.Need-add-word-2
-add-word-2 c = search needs
-
-shared-slice-read-word-3 : tie.Need-shared-slice-read-word-3
-shared-slice-read-word-3 c = search needs
-
-add-word-3 : tie.Need-add-word-3
-add-word-3 c = search needs
-
-shared-slice-read-word-4 : tie.Need-shared-slice-read-word-4
-shared-slice-read-word-4 c = search needs
-
-word-requires : tie.Need-word-requires
-word-requires c κs = search needs
+word-from-requires : tie.Need-word-from-requires
+word-from-requires c κs = search needs
 
 returns : tie.Need-returns
-returns c = c .word .ensures ∙ word-here (c .before .before .before .before .before .before .args .s .now) (c .before .before .before .before .before .before .args .i) (c .before .before .before .before .before .before .pre)
+returns c = c .word-from .ensures ∙ word-here (c .before .before .args .s .now) (c .before .before .args .i) (c .before .before .pre)
 
 pub word-at-spec : {M : Type 1} → statement M
-word-at-spec =
-    tie.close
-    (tie.spec
-    mul-at
-    shared-slice-read-word
-    add-word
-    shared-slice-read-word-2
-    add-word-2
-    shared-slice-read-word-3
-    add-word-3
-    shared-slice-read-word-4
-    word-requires
-    returns)
+word-at-spec = tie.close (tie.spec mul-word-from word-from-requires returns)
