@@ -2,12 +2,12 @@
 use mathlib.Core.Path.{_≡_, refl, sym, ap, _∙_}
 use mathlib.Core.Bool.{Bool, true, false}
 use Prim.Native.Nat.{ℕ, zero, suc, _+_, _-_, _*_, _/_, _^_, _≤_, _<_}
-use native.Mathlib.Nat.{mul-comm, zero-mul, mul-le-mul, lt-of-not-le, lt-of-le-of-lt, le-antisymm, le-div-iff-mul-le, div-lt-iff-lt-mul, div-le-of-le-mul}
+use native.Mathlib.Nat.{mul-comm, zero-mul, mul-le-mul, lt-of-not-le, lt-of-le-of-lt, le-antisymm, le-div-iff-mul-le, div-lt-iff-lt-mul}
 use native.Mathlib.Decide.{decLe}
 use native.Mathlib.Omega.{arith}
 use lib.Dec.{leb, ltb}
 use borrow.Author.Tests.{leb-true, leb-false, le-leb, lt-leb, ltb-true, ltb-false}
-use Rattle.whole.proofs.Squares.{square-next, square-double, square-below, below-next, square-lt}
+use Rattle.whole.proofs.Squares.{square-next, square-double, square-below, square-most, below-next, square-lt}
 use Rattle.number.specs.Root.{Root, correctedOf, rootIn, rootOf, rootUpOf, More}
 
 -- ---- the root of n from that of n / 4
@@ -98,9 +98,16 @@ up-large q l h k = omega (arith, mul-le-mul {n₁ = 2 ^ 31} {m₁ = 2 ^ 31} k k)
 
 -- ---- a guess at a root
 
--- a quotient by a large number is small
-pub quo-most : (t a : ℕ) → t < 2 ^ 64 → 2 ^ 29 ≤ a → t / a ≤ 2 ^ 35
-quo-most t a h k = div-le-of-le-mul a (omega arith)
+-- a part f / 2^16 of p is at most p
+pub part-most : (p f : ℕ) → f < 2 ^ 16 → p * f ≤ p * 2 ^ 16
+part-most p f h = mul-le-mul {n₁ = p} {m₁ = f} {n₂ = p} {m₂ = 2 ^ 16} (omega arith) (omega arith)
+
+-- the products of Newton's two steps are small
+pub first-most : (m a : ℕ) → m < 2 ^ 28 → a ≤ 2 ^ 16 → m * (a * a) ≤ 2 ^ 28 * 2 ^ 32
+first-most m a h k = mul-le-mul {n₁ = m} {m₁ = a * a} {n₂ = 2 ^ 28} {m₂ = 2 ^ 32} (omega arith) (square-most {a = a} {b = 2 ^ 16} k)
+
+pub second-most : (a e : ℕ) → a ≤ 2 ^ 16 → e < 2 ^ 36 → a * e ≤ 2 ^ 16 * 2 ^ 36
+second-most a e h k = mul-le-mul {n₁ = a} {m₁ = e} {n₂ = 2 ^ 16} {m₂ = 2 ^ 36} h (omega arith)
 
 -- ---- a guess settled: n is below the square of one more than 2^32 - 1, in any case
 

@@ -1,6 +1,7 @@
 // The integer root.
+use crate::guess::high;
 use crate::guess::level;
-use crate::guess::near_root;
+use crate::guess::reciprocal_root;
 ghost use mathlib.Core.Path.{_≡_};
 ghost use Prim.Native.Nat.{_*_, _^_, _<_, _≤_};
 ghost use lib.Dec.{leb};
@@ -65,7 +66,8 @@ fn guess(n: u64) -> u32
     requires { ⌜ 0 < n ⌝ }
 {
     let k = level(n);
-    let g = near_root(n << (2 * k)) >> k;
+    let t = n << (2 * k);
+    let g = high(t, reciprocal_root(t)) >> (29 + k);
     if g < 0xffff_ffff {
         return g as u32;
     }

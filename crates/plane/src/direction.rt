@@ -1,7 +1,8 @@
 // The direction of a vector, by a guess that exact tests settle, and the step of a grade.
 use crate::Vector;
+use number::guess::high;
 use number::guess::level;
-use number::guess::near_root;
+use number::guess::reciprocal_root;
 use number::sign::signed;
 use number::sign::size;
 use number::wide::product;
@@ -52,18 +53,18 @@ fn up(g: u64, c: u64, s: u64) -> u64
     n
 }
 
-// A number near c * 2^30 / root of s, with h near the root of s * 4^k.
+// A number near c * 2^30 over the root of s, with h near 2^93 over the root of s * 4^k.
 fn guess(c: u64, k: u32, h: u64) -> u64
-    requires { ⌜ (k ≤ 31) × (0 < h) ⌝ }
+    requires { ⌜ k ≤ 31 ⌝ }
     ensures { λ r. ⌜ r ≤ 2 ^ 30 ⌝ }
 {
-    let g = (c << (30 + k)) / h;
+    let g = high(c << (1 + k), h);
     if g < 0x4000_0000 { g } else { 0x4000_0000 }
 }
 
 // The size of a direction's component: the largest n with n * n * s <= c * c * 2^60.
 fn part(c: u64, s: u64, k: u32, h: u64) -> u64
-    requires { ⌜ (c ≤ 2 ^ 30) × (c * c ≤ s) × (0 < s) × (k ≤ 31) × (0 < h) ⌝ }
+    requires { ⌜ (c ≤ 2 ^ 30) × (c * c ≤ s) × (0 < s) × (k ≤ 31) ⌝ }
     ensures { λ r. ⌜ (r ≡ partOf c s) × (r ≤ 2 ^ 30) ⌝ }
 {
     up(down(guess(c, k, h), c, s), c, s)
@@ -80,7 +81,7 @@ pub fn direction(v: Vector) -> Vector
     let n = size(y);
     let s = m * m + n * n;
     let k = level(s);
-    let h = near_root(s << (2 * k));
+    let h = reciprocal_root(s << (2 * k));
     Vector {
         x: signed(x < 0, part(m, s, k, h)),
         y: signed(y < 0, part(n, s, k, h)),

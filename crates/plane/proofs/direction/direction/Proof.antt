@@ -48,22 +48,22 @@ add-s c = omega (arith, left-square c, right-square c)
 level-requires : tie.Need-level-requires
 level-requires c κs = omega (arith, sum c, start c .pre .1)
 
-mul-near-root : tie.Need-mul-near-root
-mul-near-root c = search needs
+mul-reciprocal-root : tie.Need-mul-reciprocal-root
+mul-reciprocal-root c = search needs
 
-cast-near-root : tie.Need-cast-near-root
-cast-near-root c = search needs
+cast-reciprocal-root : tie.Need-cast-reciprocal-root
+cast-reciprocal-root c = search needs
 
-shl-near-root : tie.Need-shl-near-root
-shl-near-root c = search needs
+shl-reciprocal-root : tie.Need-shl-reciprocal-root
+shl-reciprocal-root c = search needs
 
-near-root-requires : tie.Need-near-root-requires
-near-root-requires c κs = search needs
+reciprocal-root-requires : tie.Need-reciprocal-root-requires
+reciprocal-root-requires c κs = search needs
 
 part-requires : tie.Need-part-requires
 part-requires c κs =
     let a = c .before .before in
-    (omega (arith, left a, start a .pre .0 .x .size), omega arith, omega (arith, sum a, start a .pre .1), c .before .level .ensures, c .near-root .ensures)
+    (omega (arith, left a, start a .pre .0 .x .size), omega arith, omega (arith, sum a, start a .pre .1), c .before .level .ensures)
 
 signed-requires : tie.Need-signed-requires
 signed-requires c κs = search needs
@@ -71,7 +71,7 @@ signed-requires c κs = search needs
 part-requires-2 : tie.Need-part-requires-2
 part-requires-2 c κs =
     let a = c .before .before .before .before in
-    (omega (arith, right a, start a .pre .0 .y .size), omega arith, omega (arith, sum a, start a .pre .1), c .before .before .before .level .ensures, c .before .before .near-root .ensures)
+    (omega (arith, right a, start a .pre .0 .y .size), omega arith, omega (arith, sum a, start a .pre .1), c .before .before .before .level .ensures)
 
 signed-requires-2 : tie.Need-signed-requires-2
 signed-requires-2 c κs = search needs
@@ -92,10 +92,10 @@ direction-spec =
     mul-s-2
     add-s
     level-requires
-    mul-near-root
-    cast-near-root
-    shl-near-root
-    near-root-requires
+    mul-reciprocal-root
+    cast-reciprocal-root
+    shl-reciprocal-root
+    reciprocal-root-requires
     part-requires
     signed-requires
     part-requires-2
