@@ -3,3 +3,4 @@ pub mod Settle
 pub mod Products
 pub mod Directions
 pub mod Turns
+pub mod Shifts

@@ -2,12 +2,11 @@
 use crate::Vector;
 use crate::vectors::difference;
 use crate::vectors::sum;
-use number::sign::signed;
-use number::sign::size;
 ghost use mathlib.Core.Path.{_≡_};
 ghost use Prim.Native.Nat.{_^_, _≤_};
 ghost use lib.IntN.{pos, natAbs, _+ℤ_, _*ℤ_, _-ℤ_};
-ghost use lib.Signed.{quotZ};
+ghost use lib.Signed.{quotZ, shrZ};
+ghost use Rattle.whole.specs.Sizes.{Size};
 ghost use Rattle.number.specs.MulDiv.{mulDivOf};
 ghost use Rattle.plane.specs.Directions.{UnitLong, rotatedOf};
 
@@ -29,10 +28,31 @@ pub fn rotated(t: Vector, v: Vector) -> Vector
     }
 }
 
-// A direction's component scaled by a radius: d * r / 2^30, to the nearest whole number, halves away from zero.
+// (z + h) / 2^30, rounded down.
+fn rounded(z: i64, h: i64) -> i64
+    requires { ⌜ Size (2 ^ 60) z × Size (2 ^ 60) h ⌝ }
+    ensures { λ r. ⌜ r ≡ shrZ (z +ℤ h) (2 ^ 30) ⌝ }
+{
+    (z + h) >> 30
+}
+
+// d * r.
+fn times(d: i64, r: i64) -> i64
+    requires { ⌜ Size (2 ^ 30) d × Size (2 ^ 30) r ⌝ }
+    ensures { λ z. ⌜ z ≡ d *ℤ r ⌝ }
+{
+    d * r
+}
+
+// A direction's component scaled by a radius: d * r / 2^30, to the nearest whole number, halves away from zero; so a negative product, which is
+// rounded down as well, gets one less than a half.
 pub fn scaled(d: i64, r: u64) -> i64
     requires { ⌜ (natAbs d ≤ 2 ^ 30) × (r ≤ 2 ^ 28) ⌝ }
     ensures { λ z. ⌜ z ≡ mulDivOf d (pos r) (2 ^ 30) ⌝ }
 {
-    signed(d < 0, (size(d) * r + 0x2000_0000) / 0x4000_0000)
+    let z = times(d, r as i64);
+    if d < 0 {
+        return rounded(z, 0x1fff_ffff);
+    }
+    rounded(z, 0x2000_0000)
 }
