@@ -4,7 +4,7 @@ use mathlib.Core.Bool.{Bool, true, false, _&&_, _||_, true≢false}
 use Prim.Native.Nat.{ℕ, zero, suc, _+_, _*_, _^_, _<_}
 use native.Mathlib.Nat.{mul-le-mul, lt-of-le-of-lt}
 use native.Mathlib.Omega.{arith}
-use borrow.Author.Tests.{eq-eqb}
+use borrow.Author.Tests.{eq-eqb, le-ltb}
 use lib.IntN.{ℤ, pos, negsuc, negℤ, natAbs, _+ℤ_, _-ℤ_}
 use lib.Signed.{leZ}
 use mir.Syntax.{w64}
@@ -18,8 +18,8 @@ use Rattle.whole.proofs.Squares.{below-next}
 use Rattle.number.specs.Root.{rootOf}
 use Rattle.number.proofs.Roots.{root-is}
 use Rattle.plane.specs.Vectors.{Near, Short, sameNumber, samePoint, fromTo, squareOf}
-use Rattle.plane.specs.Directions.{UnitLong, directionOf}
-use Rattle.plane.proofs.Directions.{direction-unit}
+use Rattle.plane.specs.Directions.{UnitLong, partOf, componentOf, directionOf}
+use Rattle.plane.proofs.Directions.{direction-unit, part-only}
 use Rattle.plane.specs.declared.Point.{Point}
 use Rattle.plane.specs.declared.Vector.{Vector}
 use Rattle.arc.specs.Arcs.{emptyOf, ringOf, eastOf, westOf}
@@ -139,8 +139,8 @@ module _ (c : Point) (r : ℤ) where
 radius-square : {r : ℤ} → Radius r → natAbs r * natAbs r < (2 ^ 28 + 1) * (2 ^ 28 + 1)
 radius-square h = omega (arith, mul-le-mul {n₂ = 2 ^ 28} {m₂ = 2 ^ 28} (h .high) (h .high))
 
-more-than-one : (r : ℤ) → leZ r (pos 1) ≡ false → 0 < natAbs r * natAbs r
-more-than-one r e = some-square (natAbs r) (omega (arith, le-false r (pos 1) e, abs-is r))
+radius-positive : (r : ℤ) → leZ r (pos 1) ≡ false → 0 < natAbs r
+radius-positive r e = omega (arith, le-false r (pos 1) e, abs-is r)
 
 pub east-about : (c : Point) {r : ℤ} → Radius r → About c (eastOf c r)
 east-about c {r} h = record { within = rw (east-square c r) (radius-square h) }
@@ -149,14 +149,63 @@ pub west-about : (c : Point) {r : ℤ} → Radius r → About c (westOf c r)
 west-about c {r} h = record { within = rw (west-square c r) (radius-square h) }
 
 pub east-some : (c : Point) (r : ℤ) → leZ r (pos 1) ≡ false → 0 < squareOf (fromTo c (eastOf c r))
-east-some c r e = rw (east-square c r) (more-than-one r e)
+east-some c r e = rw (east-square c r) (some-square (natAbs r) (radius-positive r e))
 
 pub west-some : (c : Point) (r : ℤ) → leZ r (pos 1) ≡ false → 0 < squareOf (fromTo c (westOf c r))
-west-some c r e = rw (west-square c r) (more-than-one r e)
+west-some c r e = rw (west-square c r) (some-square (natAbs r) (radius-positive r e))
 
 -- p is the end as the code has it
-pub east-told : (c : Point) {p : Point} {r : ℤ} → Radius r → leZ r (pos 1) ≡ false → p ≡ eastOf c r → About c p × (0 < squareOf (fromTo c p))
-east-told c {r = r} h k e = rw e (east-about c h, east-some c r k)
+pub east-told : (c : Point) {p : Point} {r : ℤ} → Radius r → p ≡ eastOf c r → About c p
+east-told c h e = rw e (east-about c h)
 
-pub west-told : (c : Point) {p : Point} {r : ℤ} → Radius r → leZ r (pos 1) ≡ false → p ≡ westOf c r → About c p × (0 < squareOf (fromTo c p))
-west-told c {r = r} h k e = rw e (west-about c h, west-some c r k)
+pub west-told : (c : Point) {p : Point} {r : ℤ} → Radius r → p ≡ westOf c r → About c p
+west-told c h e = rw e (west-about c h)
+
+-- ---- their directions
+
+-- the component of a ray along itself, and of none
+part-self : (n : ℕ) → 0 < n → 2 ^ 30 ≡ partOf n (n * n)
+part-self n h =
+    let k : 0 < n * n = some-square n h in
+    part-only n (n * n) (2 ^ 30) k (omega arith) (omega arith)
+
+part-none : (s : ℕ) → 0 < s → 0 ≡ partOf 0 s
+part-none s h = part-only 0 s 0 h (omega arith) (omega arith)
+
+eastward : (n : ℕ) → 0 < n → directionOf (record { x = pos n; y = pos 0 }) ≡ record { x = pos (2 ^ 30); y = pos 0 }
+unfolding directionOf componentOf squareOf
+eastward n h =
+    let e : n * n + 0 * 0 ≡ n * n = omega arith in
+    rw (e, le-ltb n 0 (omega arith), ← part-self n h, ← part-none (n * n) (some-square n h))
+
+westward : (n : ℕ) → 0 < n → directionOf (record { x = negℤ (pos n); y = pos 0 }) ≡ record { x = negℤ (pos (2 ^ 30)); y = pos 0 }
+unfolding directionOf componentOf squareOf
+westward zero h = absurd (omega arith)
+westward (suc n) h =
+    let e : suc n * suc n + 0 * 0 ≡ suc n * suc n = omega arith in
+    rw (e, ← part-self (suc n) h, ← part-none (suc n * suc n) (some-square (suc n) h))
+
+east-direction : (c : Point) (r : ℤ) → leZ r (pos 1) ≡ false → record { x = pos (2 ^ 30); y = pos 0 } ≡ directionOf (fromTo c (eastOf c r))
+unfolding fromTo eastOf
+east-direction c (pos n) e = rw (ahead (c .x) (pos n), level (c .y)) (sym (eastward n (radius-positive (pos n) e)))
+east-direction c (negsuc n) e = absurd (true≢false e)
+
+west-direction : (c : Point) (r : ℤ) → leZ r (pos 1) ≡ false → record { x = negℤ (pos (2 ^ 30)); y = pos 0 } ≡ directionOf (fromTo c (westOf c r))
+unfolding fromTo westOf
+west-direction c (pos n) e = rw (behind (c .x) (pos n), level (c .y)) (sym (westward n (radius-positive (pos n) e)))
+west-direction c (negsuc n) e = absurd (true≢false e)
+
+pub eastward-unit : UnitLong (record { x = pos (2 ^ 30); y = pos 0 })
+unfolding squareOf
+eastward-unit = record { length = omega arith }
+
+pub westward-unit : UnitLong (record { x = negℤ (pos (2 ^ 30)); y = pos 0 })
+unfolding squareOf
+westward-unit = record { length = omega arith }
+
+-- p is the end as the code has it
+pub eastward-told : (c : Point) (r : ℤ) {p : Point} → leZ r (pos 1) ≡ false → p ≡ eastOf c r → record { x = pos (2 ^ 30); y = pos 0 } ≡ directionOf (fromTo c p)
+eastward-told c r k e = rw e (east-direction c r k)
+
+pub westward-told : (c : Point) (r : ℤ) {p : Point} → leZ r (pos 1) ≡ false → p ≡ westOf c r → record { x = negℤ (pos (2 ^ 30)); y = pos 0 } ≡ directionOf (fromTo c p)
+westward-told c r k e = rw e (west-direction c r k)

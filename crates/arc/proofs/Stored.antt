@@ -1,10 +1,11 @@
 -- An edge as four stores into lent numbers. Assumes nothing.
-use mathlib.Core.Path.{_≡_, refl, _∙_}
+use mathlib.Core.Path.{_≡_, refl, sym, ap, _∙_}
 use mathlib.Core.Bool.{true, false}
 use mathlib.Core.List.{List, [], _∷_}
-use Prim.Native.Nat.{ℕ, _+_, _^_, _<_}
+use Prim.Native.Nat.{ℕ, zero, suc, _+_, _^_, _≤_, _<_}
 use native.Mathlib.Numerals.{add-one, add-two, add-three}
-use lib.ListN.{set}
+use native.Mathlib.Omega.{arith}
+use lib.ListN.{length, set}
 use lib.IntN.{ℤ}
 use mir.Syntax.{w32}
 use mir.Val.{toZ, ofZ}
@@ -28,6 +29,26 @@ edge-none p q e = rw (e, edgeOf)
 pub edge-some : (p q : Point) → samePoint p q ≡ false → edgeOf p q ≡ record { a = p; b = q } ∷ []
 unfolding edgeOf
 edge-some p q e = rw (e, edgeOf)
+
+-- ---- past the room
+
+set-past : (l : List ℤ) (i : ℕ) (z : ℤ) → length l ≤ i → set l i z ≡ l
+set-past [] i z h = refl
+set-past (x ∷ l) zero z h = absurd (omega arith)
+set-past (x ∷ l) (suc i) z h = ap (λ m. x ∷ m) (set-past l i z (omega arith))
+
+over-past : (l : List ℤ) (i : ℕ) (zs : List ℤ) → length l ≤ i → over put l i zs ≡ l
+unfolding over
+over-past l i [] h = refl
+over-past l i (z ∷ zs) h = ap (λ m. over put m (suc i) zs) (set-past l i z h) ∙ over-past l (suc i) zs (omega arith)
+
+-- edges are counted there, and change nothing
+pub edges-past : {l : List ℤ} {at : ℕ} (es : List Edge) → length l ≤ at → Runs put edgeNumbers l at es l (at + length (spread edgeNumbers es))
+edges-past {l} {at} es h = record { out = sym (over-past l at (spread edgeNumbers es) h); pos = refl }
+
+pub edge-past : {l : List ℤ} {at : ℕ} (e : Edge) → length l ≤ at → Runs put edgeNumbers l at (e ∷ []) l (at + 4)
+unfolding spread edgeNumbers
+edge-past e h = edges-past (e ∷ []) h
 
 -- ---- one edge is four numbers
 

@@ -4,34 +4,31 @@ use crate::turn::moved;
 use crate::turn::turns;
 use plane::Point;
 use plane::Vector;
-use plane::direction::direction;
-use plane::vectors::from_to;
 ghost use mathlib.Core.Path.{_≡_};
-ghost use Prim.Native.Nat.{_<_};
 ghost use Rattle.runs.specs.Runs.{Runs, Room, put};
-ghost use Rattle.plane.specs.Vectors.{fromTo, squareOf};
-ghost use Rattle.plane.specs.Directions.{UnitLong};
+ghost use Rattle.plane.specs.Vectors.{fromTo};
+ghost use Rattle.plane.specs.Directions.{UnitLong, directionOf};
 ghost use Rattle.arc.specs.Edges.{edgeNumbers};
 ghost use Rattle.arc.specs.Arcs.{sweptOf, eastOf, westOf, circleOf};
 ghost use Rattle.arc.specs.Bounds.{Centre, Radius, About};
 
-// From p to q about c by steps of t, the inner points at the radius.
-pub fn swept(
+// From p, in the direction d, to q, in the direction e, about c by steps of t, the inner points at the radius.
+fn swept(
     out: &mut [i32],
     at: usize,
     t: Vector,
     c: Point,
     radius: i64,
     p: Point,
+    d: Vector,
     q: Point,
+    e: Vector,
 ) -> usize
     requires { ⌜ UnitLong t × Centre c × Radius radius × About c p × About c q ⌝ }
-    requires { ⌜ (0 < squareOf (fromTo c p)) × (0 < squareOf (fromTo c q)) ⌝ }
+    requires { ⌜ UnitLong d × UnitLong e × (d ≡ directionOf (fromTo c p)) × (e ≡ directionOf (fromTo c q)) ⌝ }
     requires { ⌜ Room edgeNumbers at (sweptOf t c radius p q) ⌝ }
     ensures { λ n. ⌜ Runs put edgeNumbers (now (out .entry)) at (sweptOf t c radius p q) (now (out .exit)) n ⌝ }
 {
-    let d = direction(from_to(c, p));
-    let e = direction(from_to(c, q));
     let r = Turning {
         step: t,
         centre: c,
@@ -75,6 +72,14 @@ pub fn circle(out: &mut [i32], at: usize, t: Vector, c: Point, radius: i64) -> u
     }
     let e = east(c, radius);
     let w = west(c, radius);
-    let n = swept(out, at, t, c, radius, e, w);
-    swept(out, n, t, c, radius, w, e)
+    let eastward = Vector {
+        x: 0x4000_0000,
+        y: 0,
+    };
+    let westward = Vector {
+        x: -0x4000_0000,
+        y: 0,
+    };
+    let n = swept(out, at, t, c, radius, e, eastward, w, westward);
+    swept(out, n, t, c, radius, w, westward, e, eastward)
 }

@@ -30,8 +30,8 @@ fn narrow(z: i64) -> i32
     z as i32
 }
 
-// One edge.
-fn emit(out: &mut [i32], at: usize, e: Edge) -> usize
+// One edge, number by number.
+fn store(out: &mut [i32], at: usize, e: Edge) -> usize
     requires { ⌜ Reach e ⌝ }
     requires { ⌜ Room edgeNumbers at (e ∷ []) ⌝ }
     ensures { λ r. ⌜ Runs putOf edgeNumbers (now (out .entry)) at (e ∷ []) (now (out .exit)) r ⌝ }
@@ -41,6 +41,18 @@ fn emit(out: &mut [i32], at: usize, e: Edge) -> usize
     put(out, at + 2, narrow(e.b.x));
     put(out, at + 3, narrow(e.b.y));
     at + 4
+}
+
+// One edge: past the room it is only counted.
+fn emit(out: &mut [i32], at: usize, e: Edge) -> usize
+    requires { ⌜ Reach e ⌝ }
+    requires { ⌜ Room edgeNumbers at (e ∷ []) ⌝ }
+    ensures { λ r. ⌜ Runs putOf edgeNumbers (now (out .entry)) at (e ∷ []) (now (out .exit)) r ⌝ }
+{
+    if out.len() <= at {
+        return at + 4;
+    }
+    store(out, at, e)
 }
 
 // The edge from p to q, or nothing where they are one point.

@@ -1,15 +1,17 @@
--- `arc::circle::circle` meets its contract: both ends lie about the centre, and off it. Assumes nothing.
+-- `arc::circle::circle` meets its contract: both ends lie about the centre, due east and due west of it. Assumes nothing.
 use mathlib.Core.Path.{_≡_}
 use mathlib.Core.List.{_++_}
-use Prim.Native.Nat.{_<_}
+use Prim.Native.Nat.{_^_}
 use borrow.Author.Needs.{needs}
 use Rattle.runs.proofs.Laws.{runs-none, runs-as, runs-then, room-as, room-first, room-then}
-use Rattle.plane.specs.Vectors.{fromTo, squareOf}
+use lib.IntN.{pos, negℤ}
+use Rattle.plane.specs.Vectors.{fromTo}
+use Rattle.plane.specs.Directions.{directionOf}
 use Rattle.plane.proofs.Products.{bits}
 use Rattle.arc.specs.Arcs.{sweptOf, circleOf}
 use Rattle.arc.specs.Bounds.{About}
 use Rattle.arc.proofs.Limits.{radius-back, radius-told}
-use Rattle.arc.proofs.Rays.{east-told, west-told}
+use Rattle.arc.proofs.Rays.{east-told, west-told, eastward-unit, westward-unit, eastward-told, westward-told}
 use Rattle.arc.proofs.Cases.{circle-none, circle-some}
 use Rattle.arc.proofs.circle.circle.Statement.{statement}
 use Rattle.arc.proofs.circle.circle.Tie as tie
@@ -17,12 +19,18 @@ use Rattle.arc.proofs.circle.circle.Tie as tie
 abbrev start : tie.After-west → tie.Start
 start c = c .before .before .before
 
--- its two ends, and its two arcs
-east : (c : tie.After-west) → let p = c .before .east .result in About (start c .args .c) p × (0 < squareOf (fromTo (start c .args .c) p))
-east c = east-told _ (radius-told (start c .pre .0 .2)) (c .before .before .if1 .left) (c .before .east .ensures)
+-- its two ends, their directions, and its two arcs
+east : (c : tie.After-west) → About (start c .args .c) (c .before .east .result)
+east c = east-told _ (radius-told (start c .pre .0 .2)) (c .before .east .ensures)
 
-west : (c : tie.After-west) → let p = c .west .result in About (start c .args .c) p × (0 < squareOf (fromTo (start c .args .c) p))
-west c = west-told _ (radius-told (start c .pre .0 .2)) (c .before .before .if1 .left) (c .west .ensures)
+west : (c : tie.After-west) → About (start c .args .c) (c .west .result)
+west c = west-told _ (radius-told (start c .pre .0 .2)) (c .west .ensures)
+
+eastward : (c : tie.After-west) → record { x = pos (2 ^ 30); y = pos 0 } ≡ directionOf (fromTo (start c .args .c) (c .before .east .result))
+eastward c = eastward-told _ (bits (start c .args .radius)) (c .before .before .if1 .left) (c .before .east .ensures)
+
+westward : (c : tie.After-west) → record { x = negℤ (pos (2 ^ 30)); y = pos 0 } ≡ directionOf (fromTo (start c .args .c) (c .west .result))
+westward c = westward-told _ (bits (start c .args .radius)) (c .before .before .if1 .left) (c .west .ensures)
 
 halves : (c : tie.After-west) →
     let a = start c .args in
@@ -43,17 +51,14 @@ west-requires c κs = search needs
 swept-requires : tie.Need-swept-requires
 swept-requires c κs =
     let h = c .before .before .before .before .pre .0 in
-    let e = east (c .before) in
-    let w = west (c .before) in
-    ((h .0, h .1, radius-told (h .2), e .0, w .0), ((e .1, w .1), room-first _ _ (room-as (halves (c .before)) (c .before .before .before .before .pre .1))))
+    let b = c .before in
+    ((h .0, h .1, radius-told (h .2), east b, west b), ((eastward-unit, westward-unit, eastward b, westward b), room-first _ _ (room-as (halves (c .before)) (c .before .before .before .before .pre .1))))
 
 swept-requires-2 : tie.Need-swept-requires-2
 swept-requires-2 c κs =
     let h = c .before .before .before .before .before .before .before .pre .0 in
     let b = c .before .before .before .before in
-    let e = east b in
-    let w = west b in
-    ((h .0, h .1, radius-told (h .2), w .0, e .0), ((w .1, e .1), room-then _ (c .before .before .swept .ensures) (room-as (halves b) (c .before .before .before .before .before .before .before .pre .1))))
+    ((h .0, h .1, radius-told (h .2), west b, east b), ((westward-unit, eastward-unit, westward b, eastward b), room-then _ (c .before .before .swept .ensures) (room-as (halves b) (c .before .before .before .before .before .before .before .pre .1))))
 
 same-length : tie.Need-same-length
 same-length c = search needs
