@@ -1,0 +1,42 @@
+// Keeps the path text on standard input as a sheet: sheet_keep GRADE.
+use calls::keep;
+use outline::Kept;
+use sheets::arguments;
+use sheets::arguments::Grade;
+use sheets::output;
+use sheets::refusal;
+use sheets::refusal::Unit;
+use sheets::say;
+use sheets::taking;
+
+// Keeps a path, and writes the sheet or why not.
+fn keep_path(path: &[i32], grade: u32, sheet: &mut [u8]) {
+    match keep(path, grade, sheet) {
+        Kept::Bytes(count) => output::bytes(sheet, count),
+        Kept::Refused(why) => refusal::print(why, Unit::Bytes),
+    }
+}
+
+// Takes the path from standard input, and keeps it.
+fn keep_input(text: &mut [u8], path: &mut [i32], grade: u32, sheet: &mut [u8]) {
+    let taken = taking::path(text, path);
+    if taken.is_refused() {
+        return;
+    }
+    let count = taken.count();
+    keep_path(&path[0..count], grade, sheet);
+}
+
+// Owns the memory, and lends it. No text that fits holds more vertices than the path has room for.
+fn main() {
+    let Grade::Is(grade) = arguments::grade_at(1) else {
+        say::line(
+            b"usage: sheet_keep GRADE < path.txt > sheet, where GRADE is a whole number, 1 to 8",
+        );
+        return;
+    };
+    let mut text = [0u8; 245761];
+    let mut path = [0i32; 122880];
+    let mut sheet = [0u8; 245760];
+    keep_input(&mut text, &mut path, grade, &mut sheet);
+}
