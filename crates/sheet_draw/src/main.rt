@@ -30,7 +30,7 @@ fn draw_input(text: &mut [u8], path: &mut [i32], grade: u32, room: &mut [i32]) {
 // Owns the memory, and lends it. No text that fits holds more vertices than the path has room for.
 fn main() {
     let Grade::Is(grade) = arguments::grade_at(1) else {
-        say::line(b"usage: sheet_draw GRADE < path.txt, where GRADE is a whole number, 1 to 8");
+        say::line(b"refused: GRADE is a whole number, 1 to 8 (usage: sheet_draw GRADE < path.txt)");
         return;
     };
     let mut text = [0u8; 245761];

@@ -31,7 +31,7 @@ fn keep_input(text: &mut [u8], path: &mut [i32], grade: u32, sheet: &mut [u8]) {
 fn main() {
     let Grade::Is(grade) = arguments::grade_at(1) else {
         say::line(
-            b"usage: sheet_keep GRADE < path.txt > sheet, where GRADE is a whole number, 1 to 8",
+            b"refused: GRADE is a whole number, 1 to 8 (usage: sheet_keep GRADE < path.txt > sheet)",
         );
         return;
     };

@@ -76,7 +76,7 @@ fn replace_input(memory: &mut [u8], path: &mut [i32], place: Place) {
 fn main() {
     let Asked::Is(place) = read_arguments() else {
         say::line(
-            b"usage: sheet_replace K X Y RADIUS < sheet > sheet2, all whole numbers: K from 0 on, the others of 32 bits",
+            b"refused: K, X, Y and RADIUS are whole numbers, K from 0 on, the others of 32 bits (usage: sheet_replace K X Y RADIUS < sheet > sheet2)",
         );
         return;
     };

@@ -48,12 +48,7 @@ pub fn print(refusal: Refusal, unit: Unit) {
             count,
             b"",
         ),
-        Refusal::TooMany(count) => told(
-            2,
-            b"there are more than 4096 vertices; there are ",
-            count,
-            b"",
-        ),
+        Refusal::TooMany(count) => told(2, b"above 4096 vertices; there are ", count, b""),
         Refusal::Grade(grade) => told(3, b"the grade is not 1 to 8; it is ", grade as usize, b""),
         Refusal::Outside(index) => told(
             4,
@@ -62,12 +57,12 @@ pub fn print(refusal: Refusal, unit: Unit) {
             b", counted from 0 (x and y are -268435456 to 268435456, a radius is 0 to 268435456)",
         ),
         Refusal::NoRoom(needed) => no_room(needed, unit),
-        Refusal::NotOutline => told(
-            6,
-            b"this is no sheet: it has fewer than 24 bytes, or an edition other than 1, or fewer bytes than its header says; beside it stands ",
-            0,
-            b"",
-        ),
+        Refusal::NotOutline => {
+            head(
+                6,
+                b"this is no sheet: it has under 24 bytes, or its edition is not 1, or it is shorter than its header says\n",
+            )
+        }
         Refusal::Kind(kind) => told(7, b"the sheet's kind is not 0; it is ", kind as usize, b""),
         Refusal::NotSound(at) => told(
             8,
