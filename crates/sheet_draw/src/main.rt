@@ -3,7 +3,10 @@ use calls::draw;
 use outline::Drawn;
 use sheets::arguments;
 use sheets::arguments::Grade;
+use sheets::input::BUFFER;
 use sheets::output;
+use sheets::output::MOST_EDGES;
+use sheets::path_text::MOST_NUMBERS;
 use sheets::refusal;
 use sheets::refusal::Unit;
 use sheets::say;
@@ -33,8 +36,8 @@ fn main() {
         say::line(b"refused: GRADE is a whole number, 1 to 8 (usage: sheet_draw GRADE < path.txt)");
         return;
     };
-    let mut text = [0u8; 245761];
-    let mut path = [0i32; 122880];
-    let mut room = [0i32; 131072];
+    let mut text = [0u8; BUFFER];
+    let mut path = [0i32; MOST_NUMBERS];
+    let mut room = [0i32; 4 * MOST_EDGES];
     draw_input(&mut text, &mut path, grade, &mut room);
 }

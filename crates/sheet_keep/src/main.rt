@@ -3,7 +3,10 @@ use calls::keep;
 use outline::Kept;
 use sheets::arguments;
 use sheets::arguments::Grade;
+use sheets::input::BUFFER;
+use sheets::input::MOST;
 use sheets::output;
+use sheets::path_text::MOST_NUMBERS;
 use sheets::refusal;
 use sheets::refusal::Unit;
 use sheets::say;
@@ -35,8 +38,8 @@ fn main() {
         );
         return;
     };
-    let mut text = [0u8; 245761];
-    let mut path = [0i32; 122880];
-    let mut sheet = [0u8; 245760];
+    let mut text = [0u8; BUFFER];
+    let mut path = [0i32; MOST_NUMBERS];
+    let mut sheet = [0u8; MOST];
     keep_input(&mut text, &mut path, grade, &mut sheet);
 }

@@ -1,6 +1,7 @@
 // Prints the path of the sheet on standard input, a vertex a line: sheet_read.
 use calls::read;
 use outline::Read;
+use sheets::input::BUFFER;
 use sheets::output;
 use sheets::refusal;
 use sheets::refusal::Unit;
@@ -26,7 +27,7 @@ fn print_input(sheet: &mut [u8], path: &mut [i32]) {
 
 // Owns the memory, and lends it.
 fn main() {
-    let mut sheet = [0u8; 245761];
+    let mut sheet = [0u8; BUFFER];
     let mut path = [0i32; 12288];
     print_input(&mut sheet, &mut path);
 }

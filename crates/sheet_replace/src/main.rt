@@ -7,6 +7,7 @@ use outline::Read;
 use outline::Replaced;
 use sheets::arguments;
 use sheets::arguments::Natural;
+use sheets::input::BUFFER;
 use sheets::output;
 use sheets::refusal;
 use sheets::refusal::Unit;
@@ -80,7 +81,7 @@ fn main() {
         );
         return;
     };
-    let mut memory = [0u8; 245761];
+    let mut memory = [0u8; BUFFER];
     let mut path = [0i32; 12288];
     replace_input(&mut memory, &mut path, place);
 }

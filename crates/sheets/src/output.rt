@@ -21,9 +21,22 @@ pub fn bytes(sheet: &[u8], count: usize) {
     }
 }
 
+// The most edges that a drawing has room for.
+pub const MOST_EDGES: usize = 32768;
+
+// Writes a page that has hardly room for one more number; how much of it is filled then.
+fn turned(page: &mut [u8; 4096], fill: usize) -> usize {
+    if fill < 4000 {
+        return fill;
+    }
+    bytes(page, fill);
+    0
+}
+
 // A number, and a line end after the last of a row or a space after any other.
 fn print_number(page: &mut [u8; 4096], fill: usize, value: i32, last: bool) -> usize {
-    let filled = page::signed(page, fill, long(value));
+    let start = turned(page, fill);
+    let filled = page::signed(page, start, long(value));
     if last {
         return page::line_end(page, filled);
     }
@@ -44,13 +57,18 @@ fn print_rows(page: &mut [u8; 4096], numbers: &[i32], width: usize) -> usize
     fill
 }
 
+// Writes what the page is filled with.
+fn finish(page: &[u8; 4096], fill: usize) {
+    bytes(page, fill);
+}
+
 // All the numbers in rows of that width.
 fn rows(numbers: &[i32], width: usize)
     requires { ⌜ 0 < width ⌝ }
 {
     let mut page = [0u8; 4096];
     let fill = print_rows(&mut page, numbers, width);
-    page::finish(&page, fill);
+    finish(&page, fill);
 }
 
 // The first `count` vertices of a path, one a line, or all if there are no more.

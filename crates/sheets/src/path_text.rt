@@ -1,4 +1,5 @@
 // A path as text: a vertex a line, x y radius. Blank lines count for nothing, and neither does what follows a # on a line.
+use crate::input::MOST;
 use cases::entries::Entry;
 use cases::entries::narrow;
 use lines::line::end;
@@ -7,6 +8,9 @@ use lines::token::Number;
 ghost use Prim.Native.Nat.{_+_, _≤_, _<_};
 ghost use lib.ListN.{length};
 ghost use Rattle.sheets.specs.PathText.{numbersOf};
+
+// As many numbers as the longest text can hold: a vertex takes six bytes at least, with its line end.
+pub const MOST_NUMBERS: usize = MOST / 2;
 
 // What a text holds: so many numbers, three a vertex; or the number of the first line that is no vertex; or that of the first that finds no room.
 pub enum PathText {

@@ -1,4 +1,6 @@
 // Refusals in plain words on standard error: the reply's number, what document 01 says of it, and the number beside it.
+use crate::input::MOST;
+use crate::output::MOST_EDGES;
 use crate::say;
 use outline::Refusal;
 
@@ -24,19 +26,32 @@ fn told(reply: usize, meaning: &[u8], number: usize, after: &[u8]) {
     say::line(after);
 }
 
+// How many of a unit a program has room for.
+fn room_of(unit: Unit) -> usize {
+    match unit {
+        Unit::Edges => MOST_EDGES,
+        Unit::Vertices => 4096,
+        Unit::Bytes => MOST,
+    }
+}
+
+// A unit's name.
+fn say_unit(unit: Unit) {
+    match unit {
+        Unit::Edges => say::text(b" edges"),
+        Unit::Vertices => say::text(b" vertices"),
+        Unit::Bytes => say::text(b" bytes"),
+    }
+}
+
 // A result that needs more room than a program has.
 fn no_room(needed: usize, unit: Unit) {
     head(5, b"the result is longer than the room lent; it needs ");
     say::number(needed);
-    match unit {
-        Unit::Edges => say::line(
-            b" edges, and this program has room for 32768 (more go through C or Rust)",
-        ),
-        Unit::Vertices => say::line(b" vertices, and this program has room for 4096"),
-        Unit::Bytes => say::line(
-            b" bytes, and this program has room for 245760 (more go through C or Rust)",
-        ),
-    }
+    say_unit(unit);
+    say::text(b", and this program has room for ");
+    say::number(room_of(unit));
+    say::line(b" (more go through C or Rust)");
 }
 
 // Why a call was refused.
@@ -87,9 +102,9 @@ pub fn name(bytes: &[u8]) {
 
 // An input longer than a program takes.
 pub fn too_large() {
-    say::line(
-        b"refused: the input is longer than 245760 bytes, the most that this program takes (longer sheets go through C or Rust)",
-    );
+    say::text(b"refused: the input is longer than ");
+    say::number(MOST);
+    say::line(b" bytes, the most that this program takes (longer sheets go through C or Rust)");
 }
 
 // An input that cannot be read.
