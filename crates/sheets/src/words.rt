@@ -1,4 +1,6 @@
 // The words of a sheet, safe for any bytes: 0 past the end. What they say holds of a sheet that `read` has taken.
+use outline::layout::ENTRY_WORDS;
+use outline::layout::HEADER_WORDS;
 use outline::words::signed;
 use outline::words::word_at;
 ghost use Prim.Native.Nat.{_<_, _^_};
@@ -46,9 +48,9 @@ pub fn body_edges(sheet: &[u8], i: usize) -> usize
         return 0;
     }
     if i == n {
-        return count_at(sheet, 5 + 4 * n);
+        return count_at(sheet, HEADER_WORDS + ENTRY_WORDS * n);
     }
-    count_at(sheet, 5 + 4 * i + 3)
+    count_at(sheet, HEADER_WORDS + ENTRY_WORDS * i + 3)
 }
 
 // How many edges the bodies before body i have: the number of its own first edge.
@@ -74,7 +76,7 @@ pub fn vertex_number(sheet: &[u8], i: usize, part: usize) -> i32 {
     if 2 < part {
         return 0;
     }
-    signed(word(sheet, 5 + 4 * i + part))
+    signed(word(sheet, HEADER_WORDS + ENTRY_WORDS * i + part))
 }
 
 // A number of edge i: its start's x and y at 0 and 1, its end's at 2 and 3.
@@ -85,6 +87,6 @@ pub fn edge_number(sheet: &[u8], i: usize, part: usize) -> i32 {
     if 3 < part {
         return 0;
     }
-    let first = 6 + 4 * vertices(sheet);
+    let first = HEADER_WORDS + ENTRY_WORDS * vertices(sheet) + 1;
     signed(word(sheet, first + 4 * i + part))
 }
