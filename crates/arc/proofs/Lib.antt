@@ -5,3 +5,4 @@ pub mod Limits
 pub mod Rays
 pub mod Cases
 pub mod Reach
+pub mod Mirrored

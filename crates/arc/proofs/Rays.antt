@@ -82,7 +82,7 @@ module _ {c p : Point} (h : About c p) where
 zero-same : (a b : ℤ) → natAbs (a -ℤ b) ≡ 0 → a ≡ b
 zero-same a b e = ext a b (omega (arith, abs-is (a -ℤ b), add-balance a (negℤ b), up-neg b, down-neg b))
 
-same-self : (a : ℤ) → sameNumber a a ≡ true
+pub same-self : (a : ℤ) → sameNumber a a ≡ true
 unfolding sameNumber
 same-self (pos n) = eq-eqb n n refl
 same-self (negsuc n) = eq-eqb n n refl

@@ -61,7 +61,7 @@ fn west(c: Point, radius: i64) -> Point
     }
 }
 
-// A circle, or nothing where the radius is 1 or less.
+// A circle, or nothing where the radius is 1 or less. Its arcs are alike: where the first is only counted, that counts the second.
 pub fn circle(out: &mut [i32], at: usize, t: Vector, c: Point, radius: i64) -> usize
     requires { ⌜ UnitLong t × Centre c × Radius radius ⌝ }
     requires { ⌜ Room edgeNumbers at (circleOf t c radius) ⌝ }
@@ -81,5 +81,8 @@ pub fn circle(out: &mut [i32], at: usize, t: Vector, c: Point, radius: i64) -> u
         y: 0,
     };
     let n = swept(out, at, t, c, radius, e, eastward, w, westward);
+    if out.len() <= at {
+        return n + (n - at);
+    }
     swept(out, n, t, c, radius, w, westward, e, eastward)
 }

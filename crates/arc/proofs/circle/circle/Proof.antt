@@ -3,6 +3,7 @@ use mathlib.Core.Path.{_≡_}
 use mathlib.Core.List.{_++_}
 use Prim.Native.Nat.{_^_}
 use borrow.Author.Needs.{needs}
+use native.Mathlib.Omega.{arith}
 use Rattle.runs.proofs.Laws.{runs-none, runs-as, runs-then, room-as, room-first, room-then}
 use lib.IntN.{pos, negℤ}
 use Rattle.plane.specs.Vectors.{fromTo}
@@ -13,6 +14,7 @@ use Rattle.arc.specs.Bounds.{About}
 use Rattle.arc.proofs.Limits.{radius-back, radius-told}
 use Rattle.arc.proofs.Rays.{east-told, west-told, eastward-unit, westward-unit, eastward-told, westward-told}
 use Rattle.arc.proofs.Cases.{circle-none, circle-some}
+use Rattle.arc.proofs.Mirrored.{halves-alike, counted-twice}
 use Rattle.arc.proofs.circle.circle.Statement.{statement}
 use Rattle.arc.proofs.circle.circle.Tie as tie
 
@@ -54,17 +56,33 @@ swept-requires c κs =
     let b = c .before in
     ((h .0, h .1, radius-told (h .2), east b, west b), ((eastward-unit, westward-unit, eastward b, westward b), room-first _ _ (room-as (halves (c .before)) (c .before .before .before .before .pre .1))))
 
-swept-requires-2 : tie.Need-swept-requires-2
-swept-requires-2 c κs =
-    let h = c .before .before .before .before .before .before .before .pre .0 in
+-- where there is no room, the first arc counts the second
+returns-2 : tie.Need-returns-2
+returns-2 c =
     let b = c .before .before .before .before in
-    ((h .0, h .1, radius-told (h .2), west b, east b), ((westward-unit, eastward-unit, westward b, eastward b), room-then _ (c .before .before .swept .ensures) (room-as (halves b) (c .before .before .before .before .before .before .before .pre .1))))
+    let alike = halves-alike _ _ (bits (start b .args .radius)) (b .before .before .if1 .left) (b .before .east .ensures) (b .west .ensures) in
+    runs-as (halves b) (counted-twice _ _ (c .if2 .taken) alike (c .before .before .swept .ensures))
+
+sub-result : tie.Need-sub-result
+sub-result c = search needs
+
+add-result : tie.Need-add-result
+add-result c = omega (arith, returns-2 c .pos, c .before .before .before .before .before .before .before .pre .1 .fits)
 
 same-length : tie.Need-same-length
 same-length c = search needs
 
-returns-2 : tie.Need-returns-2
-returns-2 c = runs-as (halves (c .before .before .before .before .before .before)) (runs-then (c .before .before .before .before .swept .ensures) (c .before .swept2 .ensures))
+swept-requires-2 : tie.Need-swept-requires-2
+swept-requires-2 c κs =
+    let h = c .before .before .before .before .before .before .before .before .pre .0 in
+    let b = c .before .before .before .before .before in
+    ((h .0, h .1, radius-told (h .2), west b, east b), ((westward-unit, eastward-unit, westward b, eastward b), room-then _ (c .before .before .before .swept .ensures) (room-as (halves b) (c .before .before .before .before .before .before .before .before .pre .1))))
+
+same-length-2 : tie.Need-same-length-2
+same-length-2 c = search needs
+
+returns-3 : tie.Need-returns-3
+returns-3 c = runs-as (halves (c .before .before .before .before .before .before .before)) (runs-then (c .before .before .before .before .before .swept .ensures) (c .before .swept2 .ensures))
 
 pub circle-spec : {M : Type 1} → statement M
 circle-spec =
@@ -74,6 +92,10 @@ circle-spec =
     east-requires
     west-requires
     swept-requires
-    swept-requires-2
+    sub-result
+    add-result
     same-length
-    returns-2)
+    returns-2
+    swept-requires-2
+    same-length-2
+    returns-3)
