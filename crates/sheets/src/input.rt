@@ -2,45 +2,38 @@
 use libc::STDIN_FILENO;
 ghost use Prim.Native.Nat.{_≤_};
 ghost use lib.ListN.{length};
-ghost use Rattle.io.specs.Counts.{Counts};
 ghost use Rattle.sheets.specs.Input.{bytesOf};
 
-// The most bytes that a program takes, and the buffer that it lends.
+// The most bytes that a program takes.
 pub const MOST: usize = 245760;
 
+// The buffer that it lends for them.
 pub const BUFFER: usize = MOST + 1;
 
-// What came: so many bytes at the front of the buffer, or as many as it holds, or nothing that can be read.
+// What came: so many bytes at the front of the buffer; or too many; or something that cannot be read.
 pub enum Input {
     Bytes(usize),
     TooLarge,
     Unread,
 }
 
-// Bytes, if the buffer is not full of them.
-fn told(count: usize, buffer: &[u8]) -> Input
-    ensures { λ r. ⌜ bytesOf r ≤ length (now (buffer .entry)) ⌝ }
-{
-    if count < buffer.len() {
-        return Input::Bytes(count);
-    }
-    Input::TooLarge
-}
-
-// Reads until the buffer is full or the input ends.
+// Reads until the input ends or the buffer is full, which is one byte too many. A read that fails is never taken for the end.
 fn fill(file: i32, buffer: &mut [u8]) -> Input
     ensures { λ r. ⌜ bytesOf r ≤ length (now (buffer .exit)) ⌝ }
 {
-    let got = libc::read(file, buffer);
-    if got < 0 {
-        return Input::Unread;
+    let mut filled: usize = 0;
+    while filled < buffer.len() {
+        let got = libc::read(file, &mut buffer[filled..]);
+        if got < 0 {
+            return Input::Unread;
+        }
+        let more = io::count(got, &buffer[filled..]);
+        if more == 0 {
+            return Input::Bytes(filled);
+        }
+        filled += more;
     }
-    let first = io::count(got, buffer);
-    if first == 0 {
-        return Input::Bytes(0);
-    }
-    let rest = io::read_full(file, &mut buffer[first..]);
-    told(first + rest, buffer)
+    Input::TooLarge
 }
 
 // All of standard input.

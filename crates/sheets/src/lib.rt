@@ -1,4 +1,4 @@
-// What the programs over sheets share: arguments, input, path texts, the words of a sheet, output, and refusals in plain words. A sheet is a kept outline.
+// What the programs over sheets share: arguments, input, path texts, a sheet's words, output, and refusals in words. A sheet is a kept outline.
 pub mod arguments;
 pub mod input;
 pub mod output;

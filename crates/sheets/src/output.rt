@@ -5,24 +5,24 @@ use libc::STDOUT_FILENO;
 use lines::page;
 ghost use Prim.Native.Nat.{_<_};
 
-// Writes a sheet, and says so if it cannot be.
-fn write(sheet: &[u8]) {
-    if !io::write_all(STDOUT_FILENO, sheet) {
+// The most edges that a drawing has room for.
+pub const MOST_EDGES: usize = 32768;
+
+// Writes bytes, and says so if it cannot be.
+fn write(result: &[u8]) {
+    if !io::write_all(STDOUT_FILENO, result) {
         say::line(b"refused: the result cannot be written");
     }
 }
 
 // Writes the first `count` bytes, or all if there are no more.
-pub fn bytes(sheet: &[u8], count: usize) {
-    if count < sheet.len() {
-        write(&sheet[0..count]);
+pub fn bytes(result: &[u8], count: usize) {
+    if count < result.len() {
+        write(&result[0..count]);
     } else {
-        write(sheet);
+        write(result);
     }
 }
-
-// The most edges that a drawing has room for.
-pub const MOST_EDGES: usize = 32768;
 
 // Writes a page that has hardly room for one more number; how much of it is filled then.
 fn turned(page: &mut [u8; 4096], fill: usize) -> usize {
