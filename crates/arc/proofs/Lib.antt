@@ -6,3 +6,4 @@ pub mod Rays
 pub mod Cases
 pub mod Reach
 pub mod Mirrored
+pub mod Distinct

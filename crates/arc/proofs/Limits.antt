@@ -57,7 +57,7 @@ radius-back h = back (small-fits (radius-size h))
 pub radius-told : {r : ℤ} → Radius r → Radius (bits r)
 radius-told h = rw (radius-back h) h
 
-radius-natural : {r : ℤ} → Radius r → pos (natAbs r) ≡ r
+pub radius-natural : {r : ℤ} → Radius r → pos (natAbs r) ≡ r
 radius-natural {r} h = pos-natAbs r (yes-nonNeg (h .low))
 
 pub minus-small : {r : ℤ} → Radius r → Size (2 ^ 28) (pos 0 -ℤ bits r)

@@ -97,7 +97,7 @@ point-across c r d = λ i. record { x = placed-across (c .x) (d .x) r i; y = pla
 
 -- ---- points fall together where they did
 
-same-is : (a b : ℤ) → sameNumber a b ≡ true → a ≡ b
+pub same-is : (a b : ℤ) → sameNumber a b ≡ true → a ≡ b
 unfolding sameNumber
 same-is (pos m) (pos n) e = ap pos (eqb-true m n e)
 same-is (pos m) (negsuc n) e = absurd (true≢false (sym e))

@@ -2,3 +2,4 @@
 pub mod Edges
 pub mod Arcs
 pub mod Bounds
+pub mod Counts

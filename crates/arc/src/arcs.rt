@@ -2,11 +2,11 @@
 use crate::Sweep;
 use crate::Turning;
 use crate::circle::circle;
+use crate::counting::turns;
 use crate::edges::edge;
 use crate::kinds::empty;
 use crate::kinds::full;
 use crate::kinds::sweep;
-use crate::turn::turns;
 use number::root::root;
 use plane::Point;
 use plane::Vector;

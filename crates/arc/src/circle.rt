@@ -1,7 +1,7 @@
 // An arc between two points at about one distance from its centre, and a circle, which is two of them.
 use crate::Turning;
+use crate::counting::turns;
 use crate::turn::moved;
-use crate::turn::turns;
 use plane::Point;
 use plane::Vector;
 ghost use mathlib.Core.Path.{_≡_};

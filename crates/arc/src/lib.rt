@@ -4,6 +4,7 @@ use plane::Vector;
 
 pub mod arcs;
 pub mod circle;
+pub mod counting;
 pub mod edges;
 pub mod kinds;
 pub mod turn;

@@ -55,7 +55,7 @@ pub fn point_at(c: Point, radius: i64, d: Vector) -> Point
 }
 
 // From the point p in the direction d: the edges to the inner points, at most 1,536 of them, and to the end.
-pub fn turns(out: &mut [i32], at: usize, r: Turning, d: Vector, p: Point) -> usize
+pub fn written(out: &mut [i32], at: usize, r: Turning, d: Vector, p: Point) -> usize
     requires { ⌜ Turns r ⌝ }
     requires { ⌜ UnitLong d × Near p ⌝ }
     requires { ⌜ Room edgeNumbers at (turnsOf 1536 r d p) ⌝ }

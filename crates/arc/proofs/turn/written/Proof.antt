@@ -1,4 +1,4 @@
--- `arc::turn::turns` meets its contract: whoever writes what is left from here has written all. The measure is the rotations left.
+-- `arc::turn::written` meets its contract: whoever writes what is left from here has written all. The measure is the rotations left.
 -- Assumes nothing.
 use mathlib.Core.List.{_++_}
 use Prim.Native.Nat.{_-_}
@@ -13,8 +13,8 @@ use Rattle.arc.specs.Edges.{edgeNumbers, edgeOf}
 use Rattle.arc.specs.Arcs.{turnsOf}
 use Rattle.arc.proofs.Limits.{radius-told, point-is, point-reach, next-unit}
 use Rattle.arc.proofs.Cases.{turns-end, turns-stop, turns-go}
-use Rattle.arc.proofs.turn.turns.Statement.{statement}
-use Rattle.arc.proofs.turn.turns.Tie as tie
+use Rattle.arc.proofs.turn.written.Statement.{statement}
+use Rattle.arc.proofs.turn.written.Tie as tie
 
 abbrev Inv-loop : tie.InvT-loop
 Inv-loop out₀ at r dir₀ cur₀ n₀ left₀ out dir cur n left =
@@ -103,8 +103,8 @@ returns-2 c = onward-done (onward-as (turns-end _ _ _ _ (c .before .before .befo
 same-length-2 : tie.Need-same-length-2 Inv-loop μ-loop
 same-length-2 c = written-length (returns-2 c)
 
-pub turns-spec : {M : Type 1} → statement M
-turns-spec =
+pub written-spec : {M : Type 1} → statement M
+written-spec =
     tie.close
     (tie.spec
     Inv-loop

@@ -1,0 +1,122 @@
+// An arc's turning where its edges are only counted: a direction that moves far enough moves its point, so the points are seldom needed.
+use crate::Turning;
+use crate::edges::edge;
+use crate::turn::point_at;
+use crate::turn::stops;
+use crate::turn::written;
+use number::sign::size;
+use plane::Point;
+use plane::Vector;
+use plane::rotation::rotated;
+use plane::vectors::same;
+ghost use mathlib.Core.Path.{_≡_};
+ghost use Prim.Native.Nat.{_+_, _^_, _<_};
+ghost use lib.Dec.{leb};
+ghost use lib.IntN.{natAbs, _-ℤ_};
+ghost use lib.ListN.{length};
+ghost use Rattle.whole.specs.Sizes.{Size};
+ghost use Rattle.runs.specs.Runs.{Runs, Room, put, spread};
+ghost use Rattle.plane.specs.Vectors.{Near, samePoint};
+ghost use Rattle.plane.specs.Directions.{UnitLong};
+ghost use Rattle.arc.specs.Edges.{edgeNumbers, edgeOf};
+ghost use Rattle.arc.specs.Arcs.{turnsOf};
+ghost use Rattle.arc.specs.Bounds.{Radius, Turns};
+ghost use Rattle.arc.specs.Counts.{placeOf, edgeSize, Far};
+
+// How far a component must move to move its point at the radius.
+fn least(radius: i64) -> u64
+    requires { ⌜ Radius radius ⌝ }
+    ensures { λ l. ⌜ Far (natAbs radius) l ⌝ }
+{
+    let r = size(radius);
+    if r == 0 {
+        return 0x1_0000_0000;
+    }
+    0x4000_0000 / r + 1
+}
+
+// Whether two components lie l or more apart.
+fn apart(a: i64, b: i64, l: u64) -> bool
+    requires { ⌜ Size (2 ^ 30) a × Size (2 ^ 30) b ⌝ }
+    ensures { λ t. ⌜ t ≡ leb l (natAbs (a -ℤ b)) ⌝ }
+{
+    l <= size(a - b)
+}
+
+// Whether the points in two directions are one.
+fn stays(r: Turning, d: Vector, e: Vector, l: u64) -> bool
+    requires { ⌜ Turns r × UnitLong d × UnitLong e × Far (natAbs (r .radius)) l ⌝ }
+    ensures { λ t. ⌜ t ≡ samePoint (placeOf r d) (placeOf r e) ⌝ }
+{
+    if apart(d.x, e.x, l) {
+        return false;
+    }
+    if apart(d.y, e.y, l) {
+        return false;
+    }
+    same(
+        point_at(r.centre, r.radius, d),
+        point_at(r.centre, r.radius, e),
+    )
+}
+
+// The position past an edge, by whether its ends are one point.
+fn past(at: usize, one: bool) -> usize
+    requires { ⌜ at + edgeSize one < 2 ^ 64 ⌝ }
+    ensures { λ n. ⌜ n ≡ at + edgeSize one ⌝ }
+{
+    if one {
+        return at;
+    }
+    at + 4
+}
+
+// The position past the last edge, from the point in the direction d to the end.
+fn past_last(at: usize, r: Turning, d: Vector) -> usize
+    requires { ⌜ Turns r × UnitLong d ⌝ }
+    requires { ⌜ Room edgeNumbers at (edgeOf (placeOf r d) (r .to)) ⌝ }
+    ensures { λ n. ⌜ n ≡ at + length (spread edgeNumbers (edgeOf (placeOf r d) (r .to))) ⌝ }
+{
+    past(at, same(point_at(r.centre, r.radius, d), r.to))
+}
+
+// The position past an arc that goes on from the point in the direction d, with 1,535 rotations left.
+fn counted(at: usize, r: Turning, d: Vector) -> usize
+    requires { ⌜ Turns r × UnitLong d ⌝ }
+    requires { ⌜ Room edgeNumbers at (turnsOf 1535 r d (placeOf r d)) ⌝ }
+    ensures { λ n. ⌜ n ≡ at + length (spread edgeNumbers (turnsOf 1535 r d (placeOf r d))) ⌝ }
+{
+    let l = least(r.radius);
+    let mut dir = d;
+    let mut n = at;
+    let mut left: usize = 1535;
+    while 0 < left {
+        let next = rotated(r.step, dir);
+        if stops(dir, next, r.toward) {
+            return past_last(n, r, dir);
+        }
+        n = past(n, stays(r, dir, next, l));
+        dir = next;
+        left -= 1;
+    }
+    past_last(n, r, dir)
+}
+
+// From the point p in the direction d: the edges to the inner points, at most 1,536 of them, and to the end; past the room they are counted.
+pub fn turns(out: &mut [i32], at: usize, r: Turning, d: Vector, p: Point) -> usize
+    requires { ⌜ Turns r ⌝ }
+    requires { ⌜ UnitLong d × Near p ⌝ }
+    requires { ⌜ Room edgeNumbers at (turnsOf 1536 r d p) ⌝ }
+    ensures { λ n. ⌜ Runs put edgeNumbers (now (out .entry)) at (turnsOf 1536 r d p) (now (out .exit)) n ⌝ }
+{
+    if at < out.len() {
+        return written(out, at, r, d, p);
+    }
+    let next = rotated(r.step, d);
+    if stops(d, next, r.toward) {
+        return edge(out, at, p, r.to);
+    }
+    let q = point_at(r.centre, r.radius, next);
+    let n = edge(out, at, p, q);
+    counted(n, r, next)
+}
