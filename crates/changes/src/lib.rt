@@ -1,0 +1,6 @@
+// What differs between two sheets with as many vertices: which vertices, which bodies, and how far a moved vertex can reach.
+pub mod compare;
+pub mod marks;
+pub mod ranges;
+pub mod reach;
+pub mod words;
