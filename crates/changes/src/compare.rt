@@ -1,7 +1,7 @@
 // Two sheets held against each other, vertex by vertex and body by body.
 use crate::words;
 use crate::words::word;
-ghost use Prim.Native.Nat.{_≤_};
+ghost use Prim.Native.Nat.{_^_, _<_};
 
 // Whether vertex i differs.
 pub fn vertex_differs(before: &[u8], after: &[u8], i: usize) -> bool {
@@ -16,7 +16,7 @@ pub fn vertex_differs(before: &[u8], after: &[u8], i: usize) -> bool {
 
 // Whether one of the words from a place on differs from the word that stands as far from the other place.
 fn words_differ(before: &[u8], old: usize, after: &[u8], new: usize, count: usize) -> bool
-    requires { ⌜ (old ≤ 81926) × (new ≤ 81926) × (count ≤ 65536) ⌝ }
+    requires { ⌜ (old < 2 ^ 36) × (new < 2 ^ 36) × (count < 2 ^ 34) ⌝ }
 {
     let mut i: usize = 0;
     while i < count {

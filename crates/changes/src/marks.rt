@@ -39,12 +39,19 @@ pub fn count(marks: &[bool], wanted: bool) -> usize
     found
 }
 
-// Whether a mark is set at a place between two, the second not among them.
-pub fn between(marks: &[bool], from: usize, to: usize) -> bool {
-    if marks.len() < from {
-        return false;
+// The first place from at on that is marked, or the end.
+pub fn first_from(marks: &[bool], at: usize) -> usize
+    ensures { λ r. ⌜ r ≤ length (now (marks .entry)) ⌝ }
+{
+    if marks.len() < at {
+        return marks.len();
     }
-    let found = next(marks, true, from);
+    next(marks, true, at)
+}
+
+// Whether a place between two is marked, the second not among them.
+pub fn between(marks: &[bool], from: usize, to: usize) -> bool {
+    let found = first_from(marks, from);
     if marks.len() <= found {
         return false;
     }

@@ -83,7 +83,7 @@ pub fn every(spread: Spread) -> u64
 
 // Whether vertex i of n has its number shown. A changed vertex keeps others off, and so does the last one.
 fn is_labelled(marks: &[bool], n: usize, i: usize, every: usize) -> bool
-    requires { ⌜ (0 < every) × (every ≤ 100000) × (i < n) × (n ≤ 4096) ⌝ }
+    requires { ⌜ (0 < every) × (every ≤ 100000) × (i < n) × (n < 4294967296) ⌝ }
 {
     if marks::is_set(marks, i) {
         return true;

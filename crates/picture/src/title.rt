@@ -28,11 +28,11 @@ fn print_grade(page: &mut [u8; 4096], fill: usize, before: &[u8], after: &[u8]) 
     let new = words::grade(after);
     let filled = page::text(page, fill, b", grade ");
     if old == new {
-        return page::unsigned(page, filled, new);
+        return page::unsigned(page, filled, new as u64);
     }
-    let told = page::unsigned(page, filled, old);
+    let told = page::unsigned(page, filled, old as u64);
     let between = page::text(page, told, b" before and ");
-    let both = page::unsigned(page, between, new);
+    let both = page::unsigned(page, between, new as u64);
     page::text(page, both, b" after")
 }
 
