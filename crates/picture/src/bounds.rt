@@ -1,5 +1,6 @@
 // The frames that hold a sheet, or the changed part of it: vertices with their radii, and edges.
 use crate::frame::Frame;
+use crate::frame::fine_length;
 use crate::frame::standing;
 use crate::frame::with_disc;
 use changes::marks::is_set;
@@ -9,7 +10,7 @@ use changes::words;
 fn with_vertex(frame: Frame, sheet: &[u8], i: usize) -> Frame {
     let x = standing(words::x(sheet, i));
     let y = standing(words::y(sheet, i));
-    with_disc(frame, x, y, words::radius(sheet, i))
+    with_disc(frame, x, y, fine_length(words::radius(sheet, i)))
 }
 
 // A frame that holds an edge too.

@@ -1,5 +1,6 @@
 // The radii of a sheet as faint discs, and its vertices as dots.
 use crate::frame::Frame;
+use crate::frame::fine_length;
 use crate::frame::holds;
 use crate::frame::meet;
 use crate::frame::nothing;
@@ -29,7 +30,7 @@ fn print_disc(page: &mut [u8; 4096], fill: usize, at: Spot, radius: u64) -> usiz
 fn disc(page: &mut [u8; 4096], fill: usize, view: View, sheet: &[u8], i: usize) -> usize {
     let x = standing(words::x(sheet, i));
     let y = standing(words::y(sheet, i));
-    let radius = words::radius(sheet, i);
+    let radius = fine_length(words::radius(sheet, i));
     let frame = view.frame;
     let shown = hundredths(view, radius);
     if shown == 0 {

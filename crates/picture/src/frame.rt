@@ -1,5 +1,6 @@
-// Frames: upright rectangles on a sheet. Every coordinate is counted from 2^40 below 0, so that none is negative.
-ghost use Prim.Native.Nat.{_+_, _^_, _≤_, _<_};
+// Frames: upright rectangles on a sheet. Coordinates are 256ths, counted from 2^40 below 0, so that a frame about one point has a shape and none is negative.
+ghost use mathlib.Core.Path.{_≡_};
+ghost use Prim.Native.Nat.{_*_, _^_, _≤_, _<_};
 
 // The middle of all: what stands for the coordinate 0.
 pub const MIDDLE: u64 = 0x100_0000_0000;
@@ -44,9 +45,17 @@ pub fn standing(word: u64) -> u64
     ensures { λ r. ⌜ r < 2 ^ 41 ⌝ }
 {
     if word < 0x8000_0000 {
-        return MIDDLE + word;
+        return MIDDLE + fine_length(word);
     }
-    MIDDLE + word - 0x1_0000_0000
+    MIDDLE - fine_length(0x1_0000_0000 - word)
+}
+
+// A length of a sheet, in 256ths.
+pub fn fine_length(word: u64) -> u64
+    requires { ⌜ word ≤ 2 ^ 32 ⌝ }
+    ensures { λ r. ⌜ r ≡ 256 * word ⌝ }
+{
+    256 * word
 }
 
 // The frame of nothing.
@@ -97,16 +106,16 @@ pub fn roomy(frame: Frame, part: u64) -> Frame
         return roomy_point();
     }
     let side = larger(width(frame), height(frame));
-    widened(frame, up(side / part, 1))
+    widened(frame, up(side / part, 256))
 }
 
 // A small frame about the middle.
 fn roomy_point() -> Frame {
     Frame {
-        left: MIDDLE - 1,
-        right: MIDDLE + 1,
-        low: MIDDLE - 1,
-        high: MIDDLE + 1,
+        left: MIDDLE - 256,
+        right: MIDDLE + 256,
+        low: MIDDLE - 256,
+        high: MIDDLE + 256,
     }
 }
 

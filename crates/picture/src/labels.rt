@@ -106,7 +106,7 @@ fn is_labelled(marks: &[bool], n: usize, i: usize, every: usize) -> bool
     if i < every {
         return true;
     }
-    !marks::between(marks, i - every, i)
+    !marks::between(marks, i + 1 - every, i)
 }
 
 // A number beside a place, in a class of its own if the vertex is a changed one.

@@ -118,7 +118,7 @@ fn begin(page: &mut [u8; 4096], fill: usize, wide: u64, tall: u64) -> usize {
     filled = page::text(
         page,
         filled,
-        b"text{font:11px sans-serif;fill:#37474f}\n.title{font-size:17px;fill:#000}\n.told{font-size:14px}\n",
+        b"text{font:11px sans-serif;fill:#37474f}\n.title{font-size:17px;fill:#000}\n.told{font-size:14px;paint-order:stroke;stroke:#fff;stroke-width:4px}\n",
     );
     filled = page::text(
         page,
@@ -143,7 +143,7 @@ fn begin(page: &mut [u8; 4096], fill: usize, wide: u64, tall: u64) -> usize {
     filled = page::text(
         page,
         filled,
-        b".fine path{stroke-width:.5}\n.fine .now{stroke-width:1}\n.fine .way{stroke-width:.4}\n",
+        b".fine path{stroke-width:.5}\n.fine .now{stroke-width:1}\n.fine .way{stroke-width:.4}\n.fine .radii{fill-opacity:.6}\n",
     );
     filled = page::text(
         page,

@@ -26,20 +26,20 @@ fn print_marked(
 }
 
 // Prints the report of two sheets, if they have as many vertices.
-fn print_two(
-    before: &[u8],
-    after: &[u8],
-    path: &[i32],
-    places: &mut [bool],
-    bodies: &mut [bool],
-) {
+fn print_two(before: &[u8], after: &[u8], path: &[i32], places: &mut [bool], bodies: &mut [bool]) {
     if !opening::as_many(before, after) {
         return;
     }
     let n = least(least(vertices(after), places.len()), path.len() / 3);
     let m = least(n + 1, bodies.len());
     let end = 3 * n;
-    print_marked(before, after, &path[0..end], &mut places[0..n], &mut bodies[0..m]);
+    print_marked(
+        before,
+        after,
+        &path[0..end],
+        &mut places[0..n],
+        &mut bodies[0..m],
+    );
 }
 
 // Takes the sheets that the arguments name, and prints the report of them.
@@ -60,7 +60,13 @@ fn compare_files(
     }
     let old_count = old.count();
     let new_count = new.count();
-    print_two(&before[0..old_count], &after[0..new_count], path, places, bodies);
+    print_two(
+        &before[0..old_count],
+        &after[0..new_count],
+        path,
+        places,
+        bodies,
+    );
 }
 
 // Owns the memory, and lends it.

@@ -60,8 +60,22 @@ fn print_bodies(page: &mut [u8; 4096], fill: usize, bodies: &[bool]) -> usize {
     let mut filled = page::text(page, fill, b"bodies: ");
     filled = number(page, filled, bodies.len());
     filled = page::text(page, filled, b", the closing one among them");
-    filled = print_some_bodies(page, filled, bodies, true, b"holds other edges", b"hold other edges");
-    filled = print_some_bodies(page, filled, bodies, false, b"holds the same", b"hold the same");
+    filled = print_some_bodies(
+        page,
+        filled,
+        bodies,
+        true,
+        b"holds other edges",
+        b"hold other edges",
+    );
+    filled = print_some_bodies(
+        page,
+        filled,
+        bodies,
+        false,
+        b"holds the same",
+        b"hold the same",
+    );
     page::line_end(page, filled)
 }
 
@@ -80,7 +94,11 @@ fn print_grades(page: &mut [u8; 4096], fill: usize, before: &[u8], after: &[u8])
     filled = page::unsigned(page, filled, words::grade(before) as u64);
     filled = page::text(page, filled, b" before and ");
     filled = page::unsigned(page, filled, words::grade(after) as u64);
-    page::text(page, filled, b" after: nothing is promised of bodies that are drawn at two grades\n")
+    page::text(
+        page,
+        filled,
+        b" after: nothing is promised of bodies that are drawn at two grades\n",
+    )
 }
 
 // The whole report. The path is that of the second sheet, three numbers a vertex; the marks are one a vertex and one a body.

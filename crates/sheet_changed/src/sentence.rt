@@ -17,7 +17,11 @@ fn print_same(page: &mut [u8; 4096], fill: usize, bodies: &[bool]) -> usize {
             b"FAULT: no vertex differs, and yet a body holds other edges: this must not be, please report both sheets\n",
         );
     }
-    page::text(page, fill, b"nothing differs: the two sheets are the same\n")
+    page::text(
+        page,
+        fill,
+        b"nothing differs: the two sheets are the same\n",
+    )
 }
 
 // That more than one vertex differs.
@@ -49,7 +53,11 @@ fn print_reach(page: &mut [u8; 4096], fill: usize, k: usize, reach: Reach) -> us
 // How that line ends.
 fn print_step(page: &mut [u8; 4096], fill: usize, reach: Reach) -> usize {
     match reach {
-        Reach::To(_) => page::text(page, fill, b" on that is reached by a drawn or broken step:\n"),
+        Reach::To(_) => page::text(
+            page,
+            fill,
+            b" on that is reached by a drawn or broken step:\n",
+        ),
         Reach::Nowhere => page::text(page, fill, b" on is reached by a drawn or broken step:\n"),
     }
 }
@@ -107,7 +115,11 @@ fn print_kept(page: &mut [u8; 4096], fill: usize, k: usize, from: usize, bodies:
             return page::text(page, fill, b"no body is promised to stay as it was\n");
         }
         let earlier = print_earlier(page, fill, k);
-        return page::text(page, earlier, b" cannot change, and did not; of those after nothing is promised\n");
+        return page::text(
+            page,
+            earlier,
+            b" cannot change, and did not; of those after nothing is promised\n",
+        );
     }
     let mut filled = fill;
     if k == 0 {

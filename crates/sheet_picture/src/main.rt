@@ -80,6 +80,8 @@ fn main() {
     } else if count == 2 {
         show_files(&mut before, &mut after, &mut path, &mut places, &mut bodies);
     } else {
-        say::line(b"usage: sheet_picture < sheet > sheet.svg, or sheet_picture BEFORE AFTER > sheets.svg");
+        say::line(
+            b"usage: sheet_picture < sheet > sheet.svg, or sheet_picture BEFORE AFTER > sheets.svg",
+        );
     }
 }
