@@ -33,14 +33,23 @@ fn print_many(page: &mut [u8; 4096], fill: usize) -> usize {
     )
 }
 
+// That vertex j is the last of n, if it is.
+fn print_last(page: &mut [u8; 4096], fill: usize, j: usize, n: usize) -> usize {
+    if onward(j, 1) == n {
+        return page::text(page, fill, b", the last vertex,");
+    }
+    fill
+}
+
 // The vertex j of vertex k, if there is one.
-fn print_reach(page: &mut [u8; 4096], fill: usize, k: usize, reach: Reach) -> usize {
+fn print_reach(page: &mut [u8; 4096], fill: usize, k: usize, reach: Reach, n: usize) -> usize {
     let mut filled = page::text(page, fill, b"vertex ");
     filled = number(page, filled, k);
     filled = page::text(page, filled, b" alone differs, and ");
     match reach {
         Reach::To(j) => {
             filled = number(page, filled, j);
+            filled = print_last(page, filled, j, n);
             filled = page::text(page, filled, b" is the first vertex from ");
         }
         Reach::Nowhere => {
@@ -101,6 +110,14 @@ fn print_earlier(page: &mut [u8; 4096], fill: usize, k: usize) -> usize
     range(page, filled, 0, k - 1)
 }
 
+// What joins the bodies before vertex k's with those after.
+fn print_and(page: &mut [u8; 4096], fill: usize, k: usize) -> usize {
+    if k == 1 {
+        return page::text(page, fill, b" and bodies ");
+    }
+    page::text(page, fill, b" and ")
+}
+
 // The bodies from one on.
 fn print_later(page: &mut [u8; 4096], fill: usize, from: usize) -> usize {
     let filled = page::text(page, fill, b"from ");
@@ -126,7 +143,7 @@ fn print_kept(page: &mut [u8; 4096], fill: usize, k: usize, from: usize, bodies:
         filled = page::text(page, filled, b"bodies ");
     } else {
         filled = print_earlier(page, filled, k);
-        filled = page::text(page, filled, b" and ");
+        filled = print_and(page, filled, k);
     }
     filled = print_later(page, filled, from);
     page::text(page, filled, b" cannot change, and did not\n")
@@ -162,7 +179,7 @@ fn print_one(
     bodies: &[bool],
 ) -> usize {
     let reach = reach_of(path, k);
-    let told = print_reach(page, fill, k, reach);
+    let told = print_reach(page, fill, k, reach, n);
     let filled = print_step(page, told, reach);
     let from = first_kept(reach, n, bodies.len());
     print_held(page, filled, k, from, n, bodies)
