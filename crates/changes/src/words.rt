@@ -1,4 +1,6 @@
 // The words of a sheet as counts and unsigned numbers. Beyond the sheet's end every word is 0, so that any bytes may be asked.
+use outline::layout::ENTRY_WORDS;
+use outline::layout::HEADER_WORDS;
 pub use sheets::words::body_edges;
 pub use sheets::words::edges;
 pub use sheets::words::grade;
@@ -23,7 +25,7 @@ pub fn word(sheet: &[u8], i: usize) -> u64
 fn vertex_place(i: usize) -> usize
     ensures { λ r. ⌜ r < 2 ^ 35 ⌝ }
 {
-    5 + 4 * least(i, 0x1_0000_0000)
+    HEADER_WORDS + ENTRY_WORDS * least(i, 0x1_0000_0000)
 }
 
 // The x of vertex i.
@@ -56,5 +58,5 @@ pub fn onward(edge: usize, count: usize) -> usize {
 pub fn edge_place(sheet: &[u8], edge: usize) -> usize
     ensures { λ r. ⌜ r < 2 ^ 36 ⌝ }
 {
-    6 + 4 * vertices(sheet) + 4 * least(edge, 0x1_0000_0000)
+    HEADER_WORDS + ENTRY_WORDS * vertices(sheet) + 1 + 4 * least(edge, 0x1_0000_0000)
 }

@@ -3,10 +3,15 @@ use changes::compare;
 use changes::opening;
 use changes::words::least;
 use changes::words::vertices;
-use lines::page;
 use picture::layout;
 use sheets::arguments;
+use sheets::output;
 use sheets::say;
+
+// Writes what the page is filled with, and says so if it cannot be.
+fn finish(page: &[u8; 4096], fill: usize) {
+    output::bytes(page, fill);
+}
 
 // Prints the picture of one sheet, with no mark set.
 fn print_one(sheet: &[u8], places: &[bool], bodies: &[bool]) {
@@ -14,7 +19,7 @@ fn print_one(sheet: &[u8], places: &[bool], bodies: &[bool]) {
     let n = least(vertices(sheet), places.len());
     let m = least(n + 1, bodies.len());
     let fill = layout::picture_of_one(&mut page, 0, sheet, &places[0..n], &bodies[0..m]);
-    page::finish(&page, fill);
+    finish(&page, fill);
 }
 
 // Marks what differs between two sheets, and prints the picture of both.
@@ -23,7 +28,7 @@ fn print_marked(before: &[u8], after: &[u8], places: &mut [bool], bodies: &mut [
     compare::mark_vertices(before, after, places);
     compare::mark_bodies(before, after, bodies);
     let fill = layout::picture_of_two(&mut page, 0, before, after, places, bodies);
-    page::finish(&page, fill);
+    finish(&page, fill);
 }
 
 // Prints the picture of two sheets, if they have as many vertices.
