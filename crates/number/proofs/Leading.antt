@@ -2,7 +2,7 @@
 use mathlib.Core.Path.{_≡_, refl, sym, ap, _∙_}
 use mathlib.Core.Logic.{_⊎_, inl, inr}
 use Prim.Native.Nat.{ℕ, zero, suc, _+_, _*_, _/_, _%_, _^_, _≤_, _<_}
-use native.Mathlib.Nat.{mul-add, add-mul, mul-assoc, mul-comm, mul-left-comm, add-assoc, add-comm, add-left-comm, mul-zero, mul-le-mul, mul-le-mul-right, lt-of-mul-lt-mul-right, div-le-of-le-mul, div-add-mod', mod-lt, div-eq-of-lt-le, le-of-lt}
+use native.Mathlib.Nat.{mul-add, add-mul, mul-assoc, mul-zero, mul-le-mul, mul-le-mul-right, lt-of-mul-lt-mul-right, div-le-of-le-mul, div-add-mod', mod-lt, le-of-lt}
 use native.Mathlib.Omega.{arith}
 use Rattle.number.specs.MulDiv.{nearestOf}
 use Rattle.number.proofs.Nearest.{nearest-is}

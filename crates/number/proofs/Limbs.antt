@@ -1,7 +1,7 @@
 -- A product of two limbs from the four products of the factors' halves. Assumes nothing.
 use mathlib.Core.Path.{_≡_, refl, sym, ap, _∙_}
 use Prim.Native.Nat.{ℕ, _+_, _-_, _*_, _/_, _%_, _^_, _≤_, _<_}
-use native.Mathlib.Nat.{mul-add, add-mul, mul-assoc, mul-comm, mul-left-comm, add-assoc, add-comm, add-left-comm, mul-le-mul, div-add-mod', mod-lt}
+use native.Mathlib.Nat.{mul-add, add-mul, mul-assoc, mul-comm, mul-left-comm, add-assoc, add-comm, add-left-comm, mul-le-mul, div-add-mod'}
 use native.Mathlib.Omega.{arith}
 
 -- any two numbers of two digits

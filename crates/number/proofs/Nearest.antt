@@ -1,14 +1,14 @@
 -- Which number the nearest is, how large it can be, and the sign apart. Assumes nothing.
-use mathlib.Core.Path.{_≡_, refl, sym, ap, _∙_}
+use mathlib.Core.Path.{_≡_, refl, sym}
 use mathlib.Core.Bool.{Bool, true, false, not, Bool·beq}
-use Prim.Native.Nat.{ℕ, zero, suc, _+_, _*_, _/_, _^_, _≤_, _<_}
+use Prim.Native.Nat.{ℕ, zero, suc, _+_, _*_, _/_, _≤_, _<_}
 use native.Mathlib.Nat.{add-mul, mul-left-comm, mul-le-mul, mul-le-mul-left, le-of-mul-le-mul-right, div-eq-of-lt-le, div-lt-iff-lt-mul, div-mul-le-self, suc-mul}
 use native.Mathlib.Omega.{arith}
 use lib.Dec.{ltb}
-use lib.IntN.{ℤ, pos, negsuc, negℤ, natAbs, _*ℤ_}
+use lib.IntN.{ℤ, pos, negsuc, negℤ, natAbs}
 use lib.Signed.{ltZ}
 use borrow.Author.Tests.{le-ltb}
-use Rattle.whole.proofs.Sizes.{abs-neg, abs-mul}
+use Rattle.whole.proofs.Sizes.{abs-neg}
 use Rattle.whole.proofs.Squares.{square-le, square-next, cauchy}
 use Rattle.number.specs.MulDiv.{withSign, nearestOf, roundedOf, mulDivOf}
 

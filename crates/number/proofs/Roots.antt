@@ -1,5 +1,5 @@
 -- The root by recursion on a quarter is the largest whole number whose square is not above the argument, and no other number is. Assumes nothing.
-use mathlib.Core.Path.{_≡_, refl, sym, ap, _∙_}
+use mathlib.Core.Path.{_≡_, refl, sym, _∙_}
 use mathlib.Core.Bool.{Bool, true, false}
 use Prim.Native.Nat.{ℕ, zero, suc, _+_, _-_, _*_, _/_, _^_, _≤_, _<_}
 use native.Mathlib.Nat.{mul-comm, zero-mul, mul-le-mul, lt-of-not-le, lt-of-le-of-lt, le-antisymm, le-div-iff-mul-le, div-lt-iff-lt-mul}

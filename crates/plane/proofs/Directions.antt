@@ -1,18 +1,14 @@
 -- A direction's component is the only number that its rule allows; a direction is no longer than 2^30; and a turn by one lengthens nothing.
 -- Assumes nothing.
-use mathlib.Core.Path.{_≡_, refl, sym, ap, subst, _∙_}
-use mathlib.Core.Bool.{Bool, true, false}
+use mathlib.Core.Path.{_≡_}
 use Prim.Native.Nat.{ℕ, zero, suc, _+_, _-_, _*_, _/_, _^_, _≤_, _<_}
-use native.Mathlib.Nat.{le-trans, add-mul, mul-add, mul-comm, mul-assoc, mul-left-comm, mul-le-mul, mul-le-mul-right, le-of-mul-le-mul-right, le-div-iff-mul-le, div-lt-iff-lt-mul}
+use native.Mathlib.Nat.{le-trans, add-mul, mul-comm, mul-assoc, mul-left-comm, mul-le-mul, mul-le-mul-right, le-of-mul-le-mul-right, le-div-iff-mul-le, div-lt-iff-lt-mul}
 use native.Mathlib.Omega.{arith}
 use lib.IntN.{ℤ, pos, natAbs, _+ℤ_, _-ℤ_, _*ℤ_}
 use lib.Pow.{pow-pos}
 use lib.Signed.{ltZ, quotZ}
-use Rattle.whole.specs.Sizes.{Size}
 use Rattle.whole.proofs.Squares.{square-le, rotated-sizes}
-use Rattle.whole.proofs.Sizes.{abs-neg}
 use Rattle.whole.proofs.Division.{quot-most}
-use Rattle.number.specs.Root.{Root, rootOf}
 use Rattle.number.specs.MulDiv.{withSign, mulDivOf}
 use Rattle.number.proofs.Roots.{root-is, root-only}
 use Rattle.number.proofs.Nearest.{mul-div-by, nearest-most, sign-size}

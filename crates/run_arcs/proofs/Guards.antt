@@ -1,7 +1,7 @@
 -- What the tests of a case's numbers tell of points, vertices and steps; and that no answer has so many edges that their count wraps. Assumes nothing.
 use mathlib.Core.Bool.{Bool, true, false, not, true≢false}
 use mathlib.Core.List.{List}
-use mathlib.Core.Path.{_≡_, refl, sym, _∙_}
+use mathlib.Core.Path.{_≡_, sym, _∙_}
 use Prim.Native.Nat.{ℕ, _^_, _≤_, _<_}
 use native.Mathlib.Omega.{arith}
 use borrow.Author.Tests.{not-false, ltb-true, leb-true}

@@ -1,7 +1,7 @@
 -- Runs one after another, whatever the state, the element and the thing. Assumes nothing.
 use mathlib.Core.Path.{_≡_, refl, sym, ap, _∙_}
 use mathlib.Core.List.{List, [], _∷_, _++_, append-assoc}
-use Prim.Native.Nat.{ℕ, zero, suc, _+_, _*_, _^_, _≤_, _<_}
+use Prim.Native.Nat.{ℕ, suc, _+_, _*_}
 use native.Mathlib.Nat.{add-zero, add-suc, suc-add, zero-mul, add-comm, suc-mul}
 use native.Mathlib.Omega.{arith}
 use lib.ListN.{length, length-append}

@@ -1,21 +1,19 @@
 -- One law for each case of a cap or a join, with what the code has computed as variables and equations; and what the limits leave of a section's
 -- contacts and vectors. Assumes nothing.
 use mathlib.Core.Path.{_≡_, refl, sym, ap, _∙_}
-use mathlib.Core.Bool.{Bool, true, false, _&&_, _||_, true≢false}
-use mathlib.Core.List.{List, _++_}
-use Prim.Native.Nat.{ℕ, _^_, _<_}
-use native.Mathlib.Omega.{arith}
+use mathlib.Core.Bool.{Bool, true, false, _&&_, true≢false}
+use mathlib.Core.List.{_++_}
+use Prim.Native.Nat.{_^_, _<_}
 use borrow.Author.Tests.{eqb-true}
 use lib.IntN.{ℤ, pos, negsuc}
 use lib.Signed.{leZ, ltZ, mag}
-use Rattle.whole.specs.Sizes.{Size}
-use Rattle.plane.specs.Vectors.{Near, Short, sameNumber, samePoint, fromTo, crossOf}
+use Rattle.plane.specs.Vectors.{Near, Short, sameNumber, samePoint, crossOf}
 use Rattle.plane.proofs.Products.{bits, back, from-to-short}
 use Rattle.plane.specs.declared.Point.{Point}
 use Rattle.plane.specs.declared.Vector.{Vector}
 use Rattle.arc.specs.Edges.{edgeOf}
 use Rattle.arc.specs.Arcs.{arcOf}
-use Rattle.arc.specs.Bounds.{Centre, Radius, About, Reach}
+use Rattle.arc.specs.Bounds.{Radius, About, Reach}
 use Rattle.arc.specs.declared.Edge.{Edge}
 use Rattle.arc.specs.declared.Sweep.{Sweep}
 use Rattle.arc.specs.declared.Sweep.the-variants.{Minor, Major}
@@ -25,7 +23,6 @@ use Rattle.variable_stroke.specs.Bounds.{Inside, Around}
 use Rattle.arc.proofs.Rays.{about-near}
 use Rattle.variable_stroke.proofs.Contacts.{centre-is}
 use Rattle.variable_stroke.specs.declared.Vertex.{Vertex}
-use Rattle.variable_stroke.specs.declared.Trend.{Trend}
 use Rattle.variable_stroke.specs.declared.Section.{Section}
 use Rattle.variable_stroke.specs.declared.Cap.{Cap}
 use Rattle.variable_stroke.specs.declared.Cap.the-variants.{Butt, Round}

@@ -1,19 +1,16 @@
 -- One law for each case of a chain's or a walk's step, with what the code has computed as variables and equations. Assumes nothing.
-use mathlib.Core.Path.{_≡_, refl, sym, ap, _∙_}
-use mathlib.Core.Bool.{Bool, true, false, _||_, true≢false}
-use mathlib.Core.List.{List, [], _∷_, _++_}
+use mathlib.Core.Path.{_≡_, refl, sym, _∙_}
+use mathlib.Core.Bool.{Bool, true, false}
+use mathlib.Core.List.{List, [], _++_}
 use Prim.Native.Nat.{ℕ, _^_, _<_}
-use native.Mathlib.Omega.{arith}
 use lib.IntN.{ℤ}
 use lib.Signed.{leZ, mag}
-use Rattle.runs.specs.Runs.{Runs, put}
 use Rattle.runs.proofs.Laws.{runs-none, runs-as, runs-then, runs-to}
 use Rattle.plane.proofs.Products.{bits, back}
 use Rattle.plane.specs.declared.Point.{Point}
 use Rattle.plane.specs.declared.Vector.{Vector}
-use Rattle.arc.specs.Edges.{edgeNumbers, edgeOf}
+use Rattle.arc.specs.Edges.{edgeOf}
 use Rattle.arc.specs.Arcs.{circleOf}
-use Rattle.arc.specs.declared.Edge.{Edge}
 use Rattle.variable_stroke.specs.Contacts.{centreOf, brokenOf, kindOf, sectionOf}
 use Rattle.variable_stroke.specs.Covering.{coveredOf}
 use Rattle.variable_stroke.specs.Joins.{startCap, endCap, joinOf}
@@ -33,7 +30,6 @@ use Rattle.variable_stroke.specs.declared.Chain.{Chain}
 use Rattle.variable_stroke.specs.declared.Walk.{Walk}
 use Rattle.variable_stroke.specs.declared.builder.Stepped.{Stepped}
 use Rattle.variable_stroke.specs.declared.builder.Left.{Left}
-use Rattle.variable_stroke.specs.declared.builder.Walked.{Walked}
 
 -- ---- the end of a chain
 

@@ -2,7 +2,7 @@
 use mathlib.Core.Path.{_≡_, refl, sym, ap, _∙_}
 use mathlib.Core.Bool.{Bool, true, false, true≢false}
 use mathlib.Core.List.{List, [], _∷_, _++_}
-use Prim.Native.Nat.{ℕ, zero, suc, _+_, _-_, _≤_, _<_}
+use Prim.Native.Nat.{ℕ, zero, suc, _+_, _-_, _<_}
 use native.Mathlib.Omega.{arith}
 use native.Mathlib.Nat.{add-suc}
 use lib.ListN.{length, getD, take, drop, set, length-drop}
@@ -12,7 +12,7 @@ use Rattle.plane.specs.declared.Vector.{Vector}
 use Rattle.arc.specs.Edges.{edgeOf}
 use Rattle.variable_stroke.specs.Contacts.{kindOf, sectionOf}
 use Rattle.variable_stroke.specs.Covering.{coveredOf}
-use Rattle.variable_stroke.specs.Chains.{freshOf, finishLast, finishOf, meetLast, drawnOf, breakEnd, breakStart, leaveEdges, leaveChain, markedOf, emittedOf, nextChain, nextLast, nextClosing, nextOf, startOf}
+use Rattle.variable_stroke.specs.Chains.{freshOf, finishLast, finishOf, meetLast, drawnOf, breakEnd, leaveEdges, leaveChain, markedOf, emittedOf, nextChain, nextLast, nextClosing, nextOf, startOf}
 use Rattle.variable_stroke.specs.Paths.{none, bodiesFrom, bodiesAt, bodiesOf}
 use Rattle.variable_stroke.specs.Local.{seenLast, seenChain, seen, settles, thinFrom, thinRun, reachOf, BodiesFromBefore, EarlierKept, AlikeEmitAlike, SettledAlike, LaterKept, ReachKept}
 use Rattle.variable_stroke.specs.declared.Vertex.{Vertex}

@@ -1,7 +1,7 @@
 -- How many edges each rule can give: no count of a path within the limits comes near 2^32. Assumes nothing.
-use mathlib.Core.Bool.{Bool, true, false, _||_}
-use mathlib.Core.List.{List, [], _∷_, _++_}
-use Prim.Native.Nat.{ℕ, _+_, _*_, _≤_}
+use mathlib.Core.Bool.{_||_}
+use mathlib.Core.List.{List, [], _∷_}
+use Prim.Native.Nat.{ℕ, _+_, _*_}
 use native.Mathlib.Omega.{arith}
 use lib.ListN.{length}
 use Rattle.plane.specs.Directions.{stepOf}
@@ -11,10 +11,10 @@ use Rattle.arc.specs.Bounds.{Most}
 use Rattle.arc.proofs.Most.{most-none, most-up, most-both, most-if, edge-most, circle-most, arc-most}
 use Rattle.arc.specs.declared.Edge.{Edge}
 use Rattle.arc.specs.declared.Sweep.{Sweep}
-use Rattle.variable_stroke.specs.Contacts.{centreOf, kindOf, sectionOf}
+use Rattle.variable_stroke.specs.Contacts.{centreOf, kindOf}
 use Rattle.variable_stroke.specs.Covering.{coveredOf}
 use Rattle.variable_stroke.specs.Joins.{innerOf, arcAbout, startCap, endCap, startChoice, endChoice, leftTurns, rightTurns, sameCentre, leftJoin, rightJoin, gapOf, joinOf}
-use Rattle.variable_stroke.specs.Chains.{bothButt, loneOf, finishLast, finishOf, meetLast, drawnOf, breakEnd, leaveEdges, leaveChain, emittedOf, nextOf, startOf}
+use Rattle.variable_stroke.specs.Chains.{bothButt, loneOf, finishLast, finishOf, meetLast, drawnOf, leaveEdges, emittedOf, nextOf, startOf}
 use Rattle.variable_stroke.specs.Paths.{bodiesFrom, bodiesAt, bodiesOf, joined, edgesOf, EdgesMost}
 use Rattle.variable_stroke.specs.declared.Vertex.{Vertex}
 use Rattle.variable_stroke.specs.declared.Section.{Section}

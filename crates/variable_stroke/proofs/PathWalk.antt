@@ -1,20 +1,19 @@
 -- A path vertex by vertex: its vertices, the first outside the limits, and its edges from a walk on. Assumes nothing.
-use mathlib.Core.Path.{_≡_, refl, sym, ap, _∙_}
+use mathlib.Core.Path.{_≡_, refl, _∙_}
 use mathlib.Core.Bool.{Bool, true, false, _&&_}
 use mathlib.Core.List.{List, [], _∷_, _++_, append-nil}
-use Prim.Native.Nat.{ℕ, zero, suc, _+_, _*_, _/_, _%_, _^_, _≤_, _<_}
+use Prim.Native.Nat.{ℕ, zero, suc, _+_, _*_, _/_, _^_, _≤_, _<_}
 use native.Mathlib.Omega.{arith}
 use native.Mathlib.Numerals.{add-one}
 use lib.IntN.{ℤ, pos, negsuc}
 use lib.ListN.{length, getD, drop, drop-of-length-le}
 use lib.Seq.{drop-cons}
-use lib.Signed.{leZ, ltZ, mag}
+use lib.Signed.{leZ, mag}
 use mir.Syntax.{w32, w64}
 use mir.Val.{SFits, toZ, ofZ}
 use mir.Facts.{toZ-ofZ}
 use Rattle.plane.proofs.Products.{bits, back}
 use Rattle.plane.specs.declared.Vector.{Vector}
-use Rattle.arc.specs.declared.Edge.{Edge}
 use Rattle.variable_stroke.specs.Limits.{allowedOf, firstOutside}
 use Rattle.variable_stroke.specs.Chains.{finishOf, emittedOf, nextOf, startOf}
 use Rattle.variable_stroke.specs.Paths.{pathOf, none, bodiesFrom, bodiesAt, joined}

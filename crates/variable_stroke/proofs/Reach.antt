@@ -1,8 +1,8 @@
 -- How far out the edges of a path can end: contacts and inner points lie about vertices within the limits. Assumes nothing.
-use mathlib.Core.Path.{_≡_, refl, sym}
+use mathlib.Core.Path.{_≡_, refl}
 use mathlib.Core.Bool.{Bool, true, false, _||_}
 use mathlib.Core.List.{List, [], _∷_, _++_}
-use Prim.Native.Nat.{ℕ, suc}
+use Prim.Native.Nat.{suc}
 use native.Mathlib.Omega.{arith}
 use lib.ListN.{length}
 use Rattle.plane.specs.Directions.{UnitLong, stepOf}
@@ -11,7 +11,6 @@ use Rattle.plane.specs.declared.Point.{Point}
 use Rattle.plane.specs.declared.Vector.{Vector}
 use Rattle.arc.specs.Bounds.{About, AllReach}
 use Rattle.arc.proofs.Reach.{all-reach-none, all-reach-append, all-reach-if, edge-reach, circle-reach, arc-reach}
-use Rattle.arc.specs.declared.Edge.{Edge}
 use Rattle.arc.specs.declared.Sweep.{Sweep}
 use Rattle.variable_stroke.specs.Limits.{allowedOf, firstOutside}
 use Rattle.variable_stroke.specs.Contacts.{centreOf, kindOf, sectionOf}

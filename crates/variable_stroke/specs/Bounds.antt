@@ -1,6 +1,5 @@
 -- What the limits leave of vertices, sections, chains and walks: what the functions below the calls ask for.
-use mathlib.Core.Path.{_≡_}
-use Prim.Native.Nat.{ℕ, _^_}
+use Prim.Native.Nat.{_^_}
 use Rattle.whole.specs.Sizes.{Size}
 use Rattle.plane.specs.declared.Vector.{Vector}
 use Rattle.arc.specs.Bounds.{Radius, About}

@@ -1,6 +1,6 @@
 -- Document 01, "Chains": caps and joins.
 use mathlib.Core.Bool.{Bool, true, false, _||_}
-use mathlib.Core.List.{List, [], _∷_, _++_}
+use mathlib.Core.List.{List, _++_}
 use lib.IntN.{ℤ, pos}
 use lib.Signed.{leZ, ltZ}
 use Rattle.plane.specs.Vectors.{samePoint, fromTo, crossOf}

@@ -1,5 +1,5 @@
 -- How large a sum, a product or a quotient can be, and when it fits a width. Assumes nothing.
-use mathlib.Core.Path.{_≡_, refl, sym, ap, _∙_}
+use mathlib.Core.Path.{_≡_, refl, sym, _∙_}
 use Prim.Native.Nat.{ℕ, zero, suc, _+_, _*_, _/_, _^_, _≤_, _<_, zero-le}
 use native.Mathlib.Nat.{mul-add, add-mul, mul-le-mul, div-le-self, lt-of-le-of-lt, le-suc, le-of-lt, le-of-suc-le-suc}
 use native.Mathlib.Omega.{arith}

@@ -1,12 +1,12 @@
 -- Squares, and what Cauchy and Schwarz say of sums of products. Assumes nothing.
-use mathlib.Core.Path.{_≡_, refl, sym, ap, subst, _∙_}
+use mathlib.Core.Path.{_≡_, refl, sym, ap, _∙_}
 use Prim.Native.Nat.{ℕ, zero, suc, _+_, _-_, _*_, _^_, _≤_, _<_}
 use native.Mathlib.Nat.{le-trans, mul-le-mul, lt-of-not-le, not-le-of-lt, mul-comm, mul-add, add-mul, mul-assoc, mul-left-comm, add-assoc, add-comm, add-left-comm, mul-le-mul-left, lt-of-le-of-lt, le-of-lt, pow-suc}
 use native.Mathlib.Decide.{decLe}
 use native.Mathlib.Omega.{arith}
 use lib.IntN.{ℤ, pos, negsuc, negℤ, natAbs, _+ℤ_, _-ℤ_, _*ℤ_, negℤ-negℤ}
 use lib.Pow.{shl-lt, pow-add}
-use Rattle.whole.proofs.Signed.{up, down, ext, up-neg, down-neg, add-balance, mul-addℤ, add-mulℤ, mul-negℤ, neg-mulℤ, mul-commℤ, mul-assocℤ, mul-left-commℤ, add-commℤ, add-assocℤ, add-left-commℤ}
+use Rattle.whole.proofs.Signed.{ext, up-neg, down-neg, add-balance, mul-addℤ, add-mulℤ, mul-negℤ, neg-mulℤ, mul-commℤ, mul-assocℤ, mul-left-commℤ}
 use Rattle.whole.proofs.Sizes.{abs-mul, abs-add}
 
 -- ---- natural numbers

@@ -1,8 +1,6 @@
 -- `changes::reach::settled_at` meets its contract: both vertices are within the limits. Assumes nothing.
-use mathlib.Core.Path.{ap, _∙_}
 use native.Mathlib.Omega.{arith}
 use borrow.Author.Needs.{needs}
-use Rattle.variable_stroke.specs.Local.{settles}
 use Rattle.variable_stroke.specs.Paths.{pathOf}
 use Rattle.variable_stroke.proofs.PathWalk.{path-count}
 use Rattle.changes.proofs.Reaches.{inside-at, settles-of}

@@ -1,11 +1,10 @@
 -- `number::division::mul_div` meets its contract: the nearest of the sizes, with the sign of the product. Assumes nothing.
 use mathlib.Core.Path.{_≡_, sym, ap, _∙_}
-use Prim.Native.Nat.{ℕ, _+_, _*_, _^_, _≤_, _<_}
+use Prim.Native.Nat.{_*_}
 use borrow.Author.Needs.{needs}
 use native.Mathlib.Omega.{arith}
-use lib.IntN.{ℤ, pos, natAbs}
+use lib.IntN.{natAbs}
 use mir.Syntax.{w64}
-use mir.Val.{SFits}
 use mir.Facts.{toZ-ofZ}
 use Rattle.whole.proofs.Sizes.{sfits-abs}
 use Rattle.whole.proofs.Order.{nonneg, positive}

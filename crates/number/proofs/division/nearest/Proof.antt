@@ -1,11 +1,10 @@
 -- `number::division::nearest` meets its contract: each need follows from the law `led` of the parts. Assumes nothing.
-use mathlib.Core.Path.{_≡_, refl, sym, ap, subst, _∙_}
+use mathlib.Core.Path.{_≡_, ap}
 use mathlib.Core.Logic.{_⊎_, inl, inr}
-use Prim.Native.Nat.{ℕ, _+_, _*_, _/_, _%_, _^_, _≤_, _<_}
+use Prim.Native.Nat.{ℕ, _*_, _^_, _≤_, _<_}
 use borrow.Author.Needs.{needs}
 use native.Mathlib.Omega.{arith}
 use lib.Pow.{pow-pos}
-use Rattle.number.specs.MulDiv.{nearestOf}
 use Rattle.number.proofs.Leading.{Led, led, up, same}
 use Rattle.number.proofs.division.nearest.Statement.{statement}
 use Rattle.number.proofs.division.nearest.Tie as tie

@@ -1,11 +1,11 @@
 -- `number::division::spare` meets its contract. Assumes nothing.
-use mathlib.Core.Path.{_≡_, refl, sym, subst}
+use mathlib.Core.Path.{_≡_, refl}
 use mathlib.Core.Logic.{inl, inr}
-use Prim.Native.Nat.{ℕ, suc, _+_, _-_, _*_, _^_, _≤_, _<_}
+use Prim.Native.Nat.{ℕ, suc, _+_, _-_, _^_, _≤_, _<_}
 use native.Mathlib.Nat.{lt-of-lt-of-le}
 use borrow.Author.Needs.{needs}
 use native.Mathlib.Omega.{arith}
-use lib.Count.{leadingZeros, leading-top}
+use lib.Count.{leading-top}
 use lib.Pow.{pow-add, pow-mono}
 use Rattle.number.specs.Division.{Spared}
 use Rattle.number.proofs.division.spare.Statement.{statement}

@@ -1,6 +1,6 @@
 -- `number::division::split` meets its contract. Assumes nothing.
 use mathlib.Core.Path.{_≡_, sym}
-use Prim.Native.Nat.{ℕ, _+_, _-_, _*_, _/_, _%_, _^_, _≤_, _<_}
+use Prim.Native.Nat.{ℕ, _+_, _-_, _*_, _/_, _%_, _^_}
 use native.Mathlib.Nat.{mod-eq-of-lt, mod-lt, lt-of-le-of-lt, div-mul-le-self}
 use borrow.Author.Needs.{needs}
 use native.Mathlib.Omega.{arith}

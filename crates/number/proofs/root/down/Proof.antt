@@ -1,6 +1,5 @@
 -- `number::root::down` meets its contract: it ends at 0 at the latest. Assumes nothing.
-use mathlib.Core.Path.{_≡_}
-use Prim.Native.Nat.{_^_, _<_, _≤_}
+use Prim.Native.Nat.{_^_, _<_}
 use native.Mathlib.Omega.{arith}
 use Rattle.number.proofs.Roots.{not-none}
 use Rattle.number.proofs.root.down.Statement.{statement}

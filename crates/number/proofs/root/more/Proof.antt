@@ -1,7 +1,6 @@
 -- `number::root::more` meets its contract: one test, but at the top, where no more has a square of 64 bits. Assumes nothing.
 use mathlib.Core.Bool.{true, false, true≢false}
-use mathlib.Core.Path.{_≡_, sym, _∙_}
-use Prim.Native.Nat.{_+_, _*_, _^_, _≤_, _<_}
+use mathlib.Core.Path.{sym}
 use borrow.Author.Needs.{needs}
 use native.Mathlib.Omega.{arith}
 use Rattle.number.proofs.Roots.{settled-top, more-told}

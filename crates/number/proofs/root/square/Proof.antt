@@ -1,6 +1,5 @@
 -- `number::root::square` meets its contract: the square of 32 bits fits 64. Assumes nothing.
 use borrow.Author.Needs.{needs}
-use native.Mathlib.Omega.{arith}
 use Rattle.number.proofs.Roots.{guess-square}
 use Rattle.number.proofs.root.square.Statement.{statement}
 use Rattle.number.proofs.root.square.Tie as tie

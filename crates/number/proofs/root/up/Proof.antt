@@ -1,6 +1,4 @@
 -- `number::root::up` meets its contract: one more while its square is within, so the last is the root. Assumes nothing.
-use mathlib.Core.Bool.{true, false}
-use mathlib.Core.Path.{_≡_}
 use Prim.Native.Nat.{_+_, _-_, _*_, _^_, _<_, _≤_}
 use native.Mathlib.Omega.{arith}
 use Rattle.whole.proofs.Squares.{square-lt}

@@ -1,7 +1,7 @@
 -- `plane::direction::direction` meets its contract: the coordinates' sizes, each component's size settled apart, the signs put back.
 -- Assumes nothing.
 use mathlib.Core.Path.{_≡_}
-use Prim.Native.Nat.{ℕ, _+_, _*_, _^_, _≤_}
+use Prim.Native.Nat.{_+_, _*_, _^_, _≤_}
 use borrow.Author.Needs.{needs}
 use native.Mathlib.Omega.{arith}
 use lib.IntN.{natAbs}

@@ -1,5 +1,4 @@
 -- `plane::direction::within` meets its contract. Assumes nothing.
-use mathlib.Core.Path.{_≡_}
 use borrow.Author.Needs.{needs}
 use native.Mathlib.Omega.{arith}
 use Rattle.plane.proofs.Settle.{square-most}

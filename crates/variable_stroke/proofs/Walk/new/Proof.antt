@@ -1,7 +1,6 @@
 -- `variable_stroke::Walk::new` meets its contract: it is the definition. Assumes nothing.
-use mathlib.Core.Path.{_≡_}
 use borrow.Author.Needs.{needs}
-use Rattle.variable_stroke.specs.Chains.{freshOf, startOf}
+use Rattle.variable_stroke.specs.Chains.{startOf}
 use Rattle.variable_stroke.proofs.Walk.new.Statement.{statement}
 use Rattle.variable_stroke.proofs.Walk.new.Tie as tie
 

@@ -1,5 +1,4 @@
 -- `variable_stroke::builder_join::along` meets its contract: it is the definition. Assumes nothing.
-use mathlib.Core.Path.{refl}
 use borrow.Author.Needs.{needs}
 use Rattle.variable_stroke.specs.Joins.{alongOf}
 use Rattle.variable_stroke.proofs.builder_join.along.Statement.{statement}

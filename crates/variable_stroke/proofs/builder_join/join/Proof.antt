@@ -1,9 +1,6 @@
 -- `variable_stroke::builder_join::join` meets its contract: about one centre left and then right, else the gap. Assumes nothing.
-use mathlib.Core.Bool.{true, false}
-use mathlib.Core.Path.{_≡_}
 use borrow.Author.Needs.{needs}
 use Rattle.runs.proofs.Laws.{runs-as, runs-then, room-first, room-then, room-as}
-use Rattle.variable_stroke.specs.Joins.{sameCentre}
 use Rattle.variable_stroke.proofs.CapsAndJoins.{centres-told, join-met, join-gap}
 use Rattle.variable_stroke.proofs.builder_join.join.Statement.{statement}
 use Rattle.variable_stroke.proofs.builder_join.join.Tie as tie

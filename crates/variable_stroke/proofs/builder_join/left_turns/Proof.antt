@@ -1,6 +1,6 @@
 -- `variable_stroke::builder_join::left_turns` meets its contract: the first test settles it, or the second does. Assumes nothing.
 use borrow.Author.Needs.{needs}
-use Rattle.variable_stroke.proofs.CapsAndJoins.{left-reach, right-reach, along-short, left-yes, left-no}
+use Rattle.variable_stroke.proofs.CapsAndJoins.{left-reach, along-short, left-yes, left-no}
 use Rattle.variable_stroke.proofs.builder_join.left_turns.Statement.{statement}
 use Rattle.variable_stroke.proofs.builder_join.left_turns.Tie as tie
 

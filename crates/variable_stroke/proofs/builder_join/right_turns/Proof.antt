@@ -1,6 +1,6 @@
 -- `variable_stroke::builder_join::right_turns` meets its contract: the first test settles it, or the second does. Assumes nothing.
 use borrow.Author.Needs.{needs}
-use Rattle.variable_stroke.proofs.CapsAndJoins.{left-reach, right-reach, along-short, right-yes, right-no}
+use Rattle.variable_stroke.proofs.CapsAndJoins.{right-reach, along-short, right-yes, right-no}
 use Rattle.variable_stroke.proofs.builder_join.right_turns.Statement.{statement}
 use Rattle.variable_stroke.proofs.builder_join.right_turns.Tie as tie
 

@@ -1,15 +1,15 @@
 -- `variable_stroke::paths::walk` meets its contract: what is left of the path is drawn on, step by step, by a walk that stays within the limits. Assumes nothing.
-use mathlib.Core.Path.{_≡_, refl, sym, _∙_}
-use Prim.Native.Nat.{_+_, _-_, _≤_, _<_}
+use mathlib.Core.Path.{refl}
+use Prim.Native.Nat.{_-_, _≤_, _<_}
 use native.Mathlib.Omega.{arith}
-use lib.ListN.{length, getD, drop}
+use lib.ListN.{length, drop}
 use Rattle.arc.specs.Edges.{edgeNumbers}
 use Rattle.runs.proofs.Laws.{runs-none, runs-as, room-as, room-first}
 use Rattle.runs.proofs.Onward.{Onward, onward-start, onward-step, onward-as, onward-done, onward-room}
 use Rattle.runs.proofs.Written.{written-length}
 use Rattle.runs.specs.Runs.{put}
-use Rattle.variable_stroke.specs.Bounds.{Inside, AroundWalk}
-use Rattle.variable_stroke.specs.Paths.{pathOf, none, bodiesFrom, joined}
+use Rattle.variable_stroke.specs.Bounds.{AroundWalk}
+use Rattle.variable_stroke.specs.Paths.{pathOf, bodiesFrom, joined}
 use Rattle.variable_stroke.proofs.ChainSteps.{start-around, next-around}
 use Rattle.variable_stroke.proofs.PathWalk.{allowed-at, some, edges-none, edges-start, edges-step, edges-end}
 use Rattle.variable_stroke.proofs.Allowed.{inside-of}

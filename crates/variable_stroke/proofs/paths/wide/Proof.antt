@@ -1,6 +1,4 @@
 -- `variable_stroke::paths::wide` meets its contract: a number of 32 bits fits 64. Assumes nothing.
-use mathlib.Core.Path.{_∙_}
-use Prim.Native.Nat.{_^_, _<_}
 use native.Mathlib.Omega.{arith}
 use mir.Facts.{toZ-ofZ}
 use mir.Syntax.{w32, w64}
