@@ -7,6 +7,7 @@ use changes::opening;
 use changes::words::least;
 use changes::words::vertices;
 use sheets::arguments;
+use sheets::input::BUFFER;
 use sheets::output;
 use sheets::say;
 
@@ -80,8 +81,8 @@ fn main() {
         say::line(b"usage: sheet_changed BEFORE AFTER, two sheets with as many vertices");
         return;
     }
-    let mut before = [0u8; 245761];
-    let mut after = [0u8; 245761];
+    let mut before = [0u8; BUFFER];
+    let mut after = [0u8; BUFFER];
     let mut path = [0i32; 12288];
     let mut places = [false; 4096];
     let mut bodies = [false; 4097];

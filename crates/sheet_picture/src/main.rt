@@ -5,6 +5,7 @@ use changes::words::least;
 use changes::words::vertices;
 use picture::layout;
 use sheets::arguments;
+use sheets::input::BUFFER;
 use sheets::output;
 use sheets::say;
 
@@ -75,8 +76,8 @@ fn show_files(
 // Owns the memory, and lends it.
 fn main() {
     let count = arguments::count();
-    let mut before = [0u8; 245761];
-    let mut after = [0u8; 245761];
+    let mut before = [0u8; BUFFER];
+    let mut after = [0u8; BUFFER];
     let mut path = [0i32; 12288];
     let mut places = [false; 4096];
     let mut bodies = [false; 4097];
