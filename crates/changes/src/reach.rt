@@ -4,7 +4,7 @@ use variable_stroke::math::kind;
 use variable_stroke::paths::first_outside;
 use variable_stroke::paths::vertex;
 ghost use mathlib.Core.Path.{_≡_};
-ghost use Prim.Native.Nat.{_+_, _≤_, _<_};
+ghost use Prim.Native.Nat.{_+_, _<_};
 ghost use lib.ListN.{length, getD};
 ghost use Rattle.variable_stroke.specs.Limits.{firstOutside};
 ghost use Rattle.variable_stroke.specs.Contacts.{kindOf};

@@ -11,7 +11,7 @@ use crate::view::View;
 use changes::marks;
 use changes::words;
 use lines::page;
-ghost use Prim.Native.Nat.{_+_, _≤_, _<_};
+ghost use Prim.Native.Nat.{_≤_, _<_};
 
 // How far two places are apart, across or down, whichever is more.
 fn apart(a: Spot, b: Spot) -> u64 {
