@@ -11,11 +11,6 @@ use sheets::input::BUFFER;
 use sheets::output;
 use sheets::say;
 
-// Writes what the page is filled with, and says so if it cannot be.
-fn finish(page: &[u8; 4096], fill: usize) {
-    output::bytes(page, fill);
-}
-
 // Marks what differs between two sheets, and prints the report of it.
 fn print_marked(
     before: &[u8],
@@ -28,7 +23,7 @@ fn print_marked(
     compare::mark_vertices(before, after, places);
     compare::mark_bodies(before, after, bodies);
     let fill = report::print(&mut page, 0, before, after, path, places, bodies);
-    finish(&page, fill);
+    output::finish(&page, fill);
 }
 
 // Prints the report of two sheets, if they have as many vertices.

@@ -9,18 +9,13 @@ use sheets::input::BUFFER;
 use sheets::output;
 use sheets::say;
 
-// Writes what the page is filled with, and says so if it cannot be.
-fn finish(page: &[u8; 4096], fill: usize) {
-    output::bytes(page, fill);
-}
-
 // Prints the picture of one sheet, with no mark set.
 fn print_one(sheet: &[u8], places: &[bool], bodies: &[bool]) {
     let mut page = [0u8; 4096];
     let n = least(vertices(sheet), places.len());
     let m = least(n + 1, bodies.len());
     let fill = layout::picture_of_one(&mut page, 0, sheet, &places[0..n], &bodies[0..m]);
-    finish(&page, fill);
+    output::finish(&page, fill);
 }
 
 // Marks what differs between two sheets, and prints the picture of both.
@@ -29,7 +24,7 @@ fn print_marked(before: &[u8], after: &[u8], places: &mut [bool], bodies: &mut [
     compare::mark_vertices(before, after, places);
     compare::mark_bodies(before, after, bodies);
     let fill = layout::picture_of_two(&mut page, 0, before, after, places, bodies);
-    finish(&page, fill);
+    output::finish(&page, fill);
 }
 
 // Prints the picture of two sheets, if they have as many vertices.

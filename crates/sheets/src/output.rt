@@ -57,8 +57,8 @@ fn print_rows(page: &mut [u8; 4096], numbers: &[i32], width: usize) -> usize
     fill
 }
 
-// Writes what the page is filled with.
-fn finish(page: &[u8; 4096], fill: usize) {
+// Writes what the page is filled with, and says so if it cannot be.
+pub fn finish(page: &[u8; 4096], fill: usize) {
     bytes(page, fill);
 }
 
