@@ -32,7 +32,7 @@ use Rattle.arc.specs.declared.Edge.{Edge}
 use Rattle.arc.specs.declared.Turning.{Turning}
 use Rattle.arc.proofs.Limits.{radius-natural, radius-back, point-is}
 use Rattle.arc.proofs.Stored.{edges-past}
-use Rattle.arc.proofs.Mirrored.{same-is}
+use Rattle.arc.proofs.Rays.{same-is}
 
 -- ---- how far is far enough
 

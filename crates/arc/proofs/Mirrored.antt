@@ -1,11 +1,10 @@
 -- Half a turn about its centre takes an arc to one with as many edges, and a circle's first arc to its second. Assumes nothing.
 use mathlib.Core.Path.{_≡_, refl, sym, ap, _∙_}
-use mathlib.Core.Bool.{Bool, true, false, true≢false}
+use mathlib.Core.Bool.{Bool, true, false}
 use mathlib.Core.List.{List, _++_}
 use Prim.Native.Nat.{ℕ, zero, suc, _+_, _-_, _/_, _^_, _≤_}
 use native.Mathlib.Numerals.{sub-one}
 use native.Mathlib.Omega.{arith}
-use borrow.Author.Tests.{eqb-true}
 use lib.IntN.{ℤ, pos, negsuc, negℤ, _+ℤ_, _-ℤ_, _*ℤ_, negℤ-negℤ, negℤ-+ℤ}
 use lib.ListN.{length, length-append}
 use lib.Signed.{quotZ, leZ}
@@ -22,7 +21,7 @@ use Rattle.arc.specs.Edges.{edgeNumbers, edgeOf}
 use Rattle.arc.specs.Arcs.{nearOf, stopsOf, turnsOf, sweptOf, eastOf, westOf}
 use Rattle.arc.specs.declared.Edge.{Edge}
 use Rattle.arc.specs.declared.Turning.{Turning}
-use Rattle.arc.proofs.Rays.{same-self, eastward-told, westward-told}
+use Rattle.arc.proofs.Rays.{same-self, same-is, eastward-told, westward-told}
 use Rattle.arc.proofs.Stored.{edges-past}
 use Rattle.arc.proofs.Cases.{turns-stop, turns-go, swept-turns}
 
@@ -96,13 +95,6 @@ unfolding scaledOf
 point-across c r d = λ i. record { x = placed-across (c .x) (d .x) r i; y = placed-across (c .y) (d .y) r i }
 
 -- ---- points fall together where they did
-
-pub same-is : (a b : ℤ) → sameNumber a b ≡ true → a ≡ b
-unfolding sameNumber
-same-is (pos m) (pos n) e = ap pos (eqb-true m n e)
-same-is (pos m) (negsuc n) e = absurd (true≢false (sym e))
-same-is (negsuc m) (pos n) e = absurd (true≢false (sym e))
-same-is (negsuc m) (negsuc n) e = ap negsuc (eqb-true m n e)
 
 cancel : (c a b : ℤ) → c -ℤ a ≡ c -ℤ b → a ≡ b
 cancel c a b e =

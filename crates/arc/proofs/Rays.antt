@@ -1,10 +1,10 @@
 -- Rays from a centre to the points about it: how long they are, and where they are not of no length. Assumes nothing.
-use mathlib.Core.Path.{_≡_, refl, sym, _∙_}
+use mathlib.Core.Path.{_≡_, refl, sym, ap, _∙_}
 use mathlib.Core.Bool.{Bool, true, false, _&&_, _||_, true≢false}
 use Prim.Native.Nat.{ℕ, zero, suc, _+_, _*_, _^_, _<_}
 use native.Mathlib.Nat.{mul-le-mul, lt-of-le-of-lt}
 use native.Mathlib.Omega.{arith}
-use borrow.Author.Tests.{eq-eqb, le-ltb}
+use borrow.Author.Tests.{eq-eqb, eqb-true, le-ltb}
 use lib.IntN.{ℤ, pos, negsuc, negℤ, natAbs, _+ℤ_, _-ℤ_}
 use lib.Signed.{leZ}
 use mir.Syntax.{w64}
@@ -86,6 +86,13 @@ pub same-self : (a : ℤ) → sameNumber a a ≡ true
 unfolding sameNumber
 same-self (pos n) = eq-eqb n n refl
 same-self (negsuc n) = eq-eqb n n refl
+
+pub same-is : (a b : ℤ) → sameNumber a b ≡ true → a ≡ b
+unfolding sameNumber
+same-is (pos m) (pos n) e = ap pos (eqb-true m n e)
+same-is (pos m) (negsuc n) e = absurd (true≢false (sym e))
+same-is (negsuc m) (pos n) e = absurd (true≢false (sym e))
+same-is (negsuc m) (negsuc n) e = ap negsuc (eqb-true m n e)
 
 some-way : (a b : ℤ) → sameNumber a b ≡ false → 0 < natAbs (a -ℤ b)
 some-way a b e = go (natAbs (a -ℤ b)) refl

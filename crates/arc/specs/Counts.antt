@@ -1,4 +1,4 @@
--- What counting an arc's edges cites: the point in a direction, what an edge adds, and how far a direction must move to move its point.
+-- Document 01, "Arcs", where edges are only counted, and those of no length are not: the point in a direction, what an edge adds, and how far a direction must move to move its point.
 use mathlib.Core.Bool.{Bool, true, false}
 use Prim.Native.Nat.{ℕ, _*_, _^_, _≤_, _<_}
 use Rattle.plane.specs.Directions.{scaledOf}

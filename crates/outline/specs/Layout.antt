@@ -18,17 +18,17 @@ entryWords = 4
 
 -- Bytes of the header, of an entry and of an edge.
 abbrev pub headerBytes : ℕ
-headerBytes = 20
+headerBytes = 4 * headerWords
 
 abbrev pub entryBytes : ℕ
-entryBytes = 16
+entryBytes = 4 * entryWords
 
 abbrev pub edgeBytes : ℕ
 edgeBytes = 16
 
 -- Bytes of an outline with no vertex: a header and the closing count.
 abbrev pub leastBytes : ℕ
-leastBytes = 24
+leastBytes = headerBytes + 4
 
 -- The word at which entry k begins; past the entries, the closing count.
 abbrev pub entryAt : ℕ → ℕ

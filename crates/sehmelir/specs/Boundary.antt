@@ -33,3 +33,16 @@ pub record ReadReplies (store : List ℕ) (out₀ : List ℤ) (r : Reply) (out�
 pub record ReplaceReplies (store₀ : List ℕ) (index : ℕ) (v : Vertex) (r : Reply) (store₁ : List ℕ) : Type 0 where
   pub replies : Replies r (replaceReply store₀ index v) 0
   pub store : store₁ ≡ replaceOut store₀ index v
+
+-- Document 01, "Promises and hollow programs": two outcomes that a call's promise allows coincide.
+abbrev pub OneDrawReply : Type 0
+OneDrawReply = (path : List ℤ) (g : ℕ) (out : List ℤ) (r q : Reply) (o p : List ℤ) → DrawReplies path g out r o → DrawReplies path g out q p → (r ≡ q) × (o ≡ p)
+
+abbrev pub OneKeepReply : Type 0
+OneKeepReply = (path : List ℤ) (g : ℕ) (out : List ℕ) (r q : Reply) (o p : List ℕ) → KeepReplies path g out r o → KeepReplies path g out q p → (r ≡ q) × (o ≡ p)
+
+abbrev pub OneReadReply : Type 0
+OneReadReply = (s : List ℕ) (out : List ℤ) (r q : Reply) (o p : List ℤ) → ReadReplies s out r o → ReadReplies s out q p → (r ≡ q) × (o ≡ p)
+
+abbrev pub OneReplaceReply : Type 0
+OneReplaceReply = (s : List ℕ) (k : ℕ) (v : Vertex) (r q : Reply) (o p : List ℕ) → ReplaceReplies s k v r o → ReplaceReplies s k v q p → (r ≡ q) × (o ≡ p)

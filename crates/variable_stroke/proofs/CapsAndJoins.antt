@@ -1,13 +1,12 @@
 -- One law for each case of a cap or a join, with what the code has computed as variables and equations; and what the limits leave of a section's
 -- contacts and vectors. Assumes nothing.
-use mathlib.Core.Path.{_≡_, refl, sym, ap, _∙_}
+use mathlib.Core.Path.{_≡_, refl, sym, _∙_}
 use mathlib.Core.Bool.{Bool, true, false, _&&_, true≢false}
 use mathlib.Core.List.{_++_}
 use Prim.Native.Nat.{_^_, _<_}
-use borrow.Author.Tests.{eqb-true}
-use lib.IntN.{ℤ, pos, negsuc}
+use lib.IntN.{ℤ, pos}
 use lib.Signed.{leZ, ltZ, mag}
-use Rattle.plane.specs.Vectors.{Near, Short, sameNumber, samePoint, crossOf}
+use Rattle.plane.specs.Vectors.{Near, Short, samePoint, crossOf}
 use Rattle.plane.proofs.Products.{bits, back, from-to-short}
 use Rattle.plane.specs.declared.Point.{Point}
 use Rattle.plane.specs.declared.Vector.{Vector}
@@ -20,7 +19,7 @@ use Rattle.arc.specs.declared.Sweep.the-variants.{Minor, Major}
 use Rattle.variable_stroke.specs.Contacts.{centreOf, lineOf}
 use Rattle.variable_stroke.specs.Joins.{innerOf, arcAbout, startChoice, startCap, endChoice, endCap, alongOf, bendOf, leftTurns, leftJoin, rightTurns, rightJoin, sameCentre, gapOf, joinOf}
 use Rattle.variable_stroke.specs.Bounds.{Inside, Around}
-use Rattle.arc.proofs.Rays.{about-near}
+use Rattle.arc.proofs.Rays.{about-near, same-is}
 use Rattle.variable_stroke.proofs.Contacts.{centre-is}
 use Rattle.variable_stroke.specs.declared.Vertex.{Vertex}
 use Rattle.variable_stroke.specs.declared.Section.{Section}
@@ -123,13 +122,6 @@ unfolding sameCentre
 centres-told m n e f g h = let k : samePoint (centreOf (m .b)) (centreOf (n .a)) ≡ _ = rw (e, f) at (sym g ∙ h) in k
 
 -- where the centres are one, a contact of the one section is about the other's vertex
-same-number : (a b : ℤ) → sameNumber a b ≡ true → a ≡ b
-unfolding sameNumber
-same-number (pos m) (pos n) e = ap pos (eqb-true m n e)
-same-number (pos m) (negsuc n) e = absurd (true≢false (sym e))
-same-number (negsuc m) (pos n) e = absurd (true≢false (sym e))
-same-number (negsuc m) (negsuc n) e = ap negsuc (eqb-true m n e)
-
 both-true : (a b : Bool) → (a && b) ≡ true → (a ≡ true) × (b ≡ true)
 both-true true b e = (refl, e)
 both-true false b e = absurd (true≢false (sym e))
@@ -138,7 +130,7 @@ same-point : (p q : Point) → samePoint p q ≡ true → p ≡ q
 unfolding samePoint
 same-point p q e =
     let h = both-true _ _ e in
-    λ i. record { x = same-number (p .x) (q .x) (h .0) i; y = same-number (p .y) (q .y) (h .1) i }
+    λ i. record { x = same-is (p .x) (q .x) (h .0) i; y = same-is (p .y) (q .y) (h .1) i }
 
 pub about-shared-left : {m : Section} (n : Section) → sameCentre m n ≡ true → Around m → About (centreOf (n .a)) (m .left .b)
 unfolding sameCentre

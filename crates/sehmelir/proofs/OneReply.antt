@@ -1,0 +1,22 @@
+-- A reply is what document 01 says, number by number, so a promise allows one. Assumes nothing.
+use mathlib.Core.Path.{_≡_, sym, _∙_}
+use Prim.Native.Nat.{ℕ}
+use Rattle.outline.specs.Replies.{Reply as Answer}
+use Rattle.sehmelir.specs.Boundary.{Replies, OneDrawReply, OneKeepReply, OneReadReply, OneReplaceReply}
+use Rattle.sehmelir.specs.declared.Reply.{Reply}
+
+one-reply : (t : Answer) (g : ℕ) (r q : Reply) → Replies r t g → Replies q t g → r ≡ q
+one-reply t g r q a b =
+    λ i. record { reply = (a .reply ∙ sym (b .reply)) i; grade = (a .grade ∙ sym (b .grade)) i; number = (a .number ∙ sym (b .number)) i }
+
+pub one-draw-reply : OneDrawReply
+one-draw-reply path g out r q o p a b = (one-reply _ _ r q (a .replies) (b .replies), a .out ∙ sym (b .out))
+
+pub one-keep-reply : OneKeepReply
+one-keep-reply path g out r q o p a b = (one-reply _ _ r q (a .replies) (b .replies), a .out ∙ sym (b .out))
+
+pub one-read-reply : OneReadReply
+one-read-reply s out r q o p a b = (one-reply _ _ r q (a .replies) (b .replies), a .out ∙ sym (b .out))
+
+pub one-replace-reply : OneReplaceReply
+one-replace-reply s k v r q o p a b = (one-reply _ _ r q (a .replies) (b .replies), a .store ∙ sym (b .store))
