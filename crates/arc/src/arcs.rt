@@ -11,6 +11,7 @@ use number::root::root;
 use plane::Point;
 use plane::Vector;
 use plane::direction::direction;
+use plane::direction::measured;
 use plane::vectors::from_to;
 use plane::vectors::square;
 ghost use mathlib.Core.List.{_++_};
@@ -53,8 +54,11 @@ pub fn arc(
     if empty(w, c, p, q) {
         return at;
     }
-    let d = direction(m);
-    let e = direction(n);
+    // both lengths first: neither waits for the other
+    let k = measured(m);
+    let l = measured(n);
+    let d = direction(m, k);
+    let e = direction(n, l);
     if full(w, d, e) {
         return ring(out, at, t, c, p, q);
     }

@@ -5,8 +5,8 @@ use plane::Point;
 use plane::vectors::same;
 ghost use mathlib.Core.Path.{_≡_};
 ghost use mathlib.Core.List.{[], _∷_};
-ghost use Prim.Native.Nat.{_^_};
-ghost use lib.ListN.{set};
+ghost use Prim.Native.Nat.{_+_, _^_, _<_};
+ghost use lib.ListN.{length, set};
 ghost use Rattle.whole.specs.Sizes.{Size};
 ghost use Rattle.runs.specs.Runs.{Runs, Room, put as putOf};
 ghost use Rattle.plane.specs.Vectors.{Near};
@@ -30,8 +30,8 @@ fn narrow(z: i64) -> i32
     z as i32
 }
 
-// One edge, number by number.
-fn store(out: &mut [i32], at: usize, e: Edge) -> usize
+// One edge, number by number, as far as the room goes.
+fn store_some(out: &mut [i32], at: usize, e: Edge) -> usize
     requires { ⌜ Reach e ⌝ }
     requires { ⌜ Room edgeNumbers at (e ∷ []) ⌝ }
     ensures { λ r. ⌜ Runs putOf edgeNumbers (now (out .entry)) at (e ∷ []) (now (out .exit)) r ⌝ }
@@ -40,6 +40,28 @@ fn store(out: &mut [i32], at: usize, e: Edge) -> usize
     put(out, at + 1, narrow(e.a.y));
     put(out, at + 2, narrow(e.b.x));
     put(out, at + 3, narrow(e.b.y));
+    at + 4
+}
+
+// The number w at i, which is inside the room.
+fn place(out: &mut [i32], i: usize, w: i32)
+    requires { ⌜ i < length (now out) ⌝ }
+    ensures { λ _. ⌜ now (out .exit) ≡ set (now (out .entry)) i w ⌝ }
+{
+    out[i] = w;
+}
+
+// One edge, all of it inside the room.
+fn store(out: &mut [i32], at: usize, e: Edge) -> usize
+    requires { ⌜ Reach e ⌝ }
+    requires { ⌜ Room edgeNumbers at (e ∷ []) ⌝ }
+    requires { ⌜ at + 3 < length (now out) ⌝ }
+    ensures { λ r. ⌜ Runs putOf edgeNumbers (now (out .entry)) at (e ∷ []) (now (out .exit)) r ⌝ }
+{
+    place(out, at, narrow(e.a.x));
+    place(out, at + 1, narrow(e.a.y));
+    place(out, at + 2, narrow(e.b.x));
+    place(out, at + 3, narrow(e.b.y));
     at + 4
 }
 
@@ -52,7 +74,10 @@ fn emit(out: &mut [i32], at: usize, e: Edge) -> usize
     if out.len() <= at {
         return at + 4;
     }
-    store(out, at, e)
+    if 4 <= out.len() - at {
+        return store(out, at, e);
+    }
+    store_some(out, at, e)
 }
 
 // The edge from p to q, or nothing where they are one point.

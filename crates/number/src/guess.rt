@@ -1,13 +1,6 @@
 // A guess at a root, for exact tests to settle: nothing that is proved leans on its being near.
-use crate::wide::product;
-ghost use mathlib.Core.Path.{_≡_};
-ghost use Prim.Native.Nat.{_^_, _<_, _≤_};
-
-// The upper limb of a * b.
-pub fn high(a: u64, b: u64) -> u64 {
-    let p = product(a, b);
-    p.hi
-}
+use crate::wide::high;
+ghost use Prim.Native.Nat.{_*_, _^_, _<_, _≤_};
 
 // k less the part f / 2^16 of p.
 fn less(k: u64, p: u64, f: u64) -> u64
@@ -38,10 +31,10 @@ pub fn reciprocal_root(t: u64) -> u64 {
     high(b << 32, f << 2)
 }
 
-// Half the leading zeros of s, so that s * 4^k is at least 2^62.
+// Half the leading zeros of s, so that s * 4^k is at least 2^62 and still fits.
 pub fn level(s: u64) -> u32
     requires { ⌜ 0 < s ⌝ }
-    ensures { λ k. ⌜ k ≤ 31 ⌝ }
+    ensures { λ k. ⌜ (k ≤ 31) × (s * 4 ^ k < 2 ^ 64) ⌝ }
 {
     u64::leading_zeros(s) / 2
 }

@@ -1,7 +1,7 @@
 // The integer root.
-use crate::guess::high;
 use crate::guess::level;
 use crate::guess::reciprocal_root;
+use crate::wide::high;
 ghost use mathlib.Core.Path.{_≡_};
 ghost use Prim.Native.Nat.{_*_, _^_, _<_, _≤_};
 ghost use lib.Dec.{leb};

@@ -25,3 +25,11 @@ pub fn product(a: u64, b: u64) -> Wide
         lo: std::num::wrapping_add_u64(w, m * 0x1_0000_0000),
     }
 }
+
+// The upper limb of a * b.
+pub fn high(a: u64, b: u64) -> u64
+    ensures { λ r. ⌜ (r * 2 ^ 64 ≤ a * b) × (a * b < r * 2 ^ 64 + 2 ^ 64) ⌝ }
+{
+    let p = product(a, b);
+    p.hi
+}

@@ -1,23 +1,25 @@
 -- A direction's component is the only number that its rule allows; a direction is no longer than 2^30; and a turn by one lengthens nothing.
 -- Assumes nothing.
-use mathlib.Core.Path.{_≡_}
-use Prim.Native.Nat.{ℕ, zero, suc, _+_, _-_, _*_, _/_, _^_, _≤_, _<_}
-use native.Mathlib.Nat.{le-trans, add-mul, mul-comm, mul-assoc, mul-left-comm, mul-le-mul, mul-le-mul-right, le-of-mul-le-mul-right, le-div-iff-mul-le, div-lt-iff-lt-mul}
+use mathlib.Core.Path.{_≡_, refl}
+use mathlib.Core.Bool.{Bool, true}
+use Prim.Native.Nat.{ℕ, zero, suc, _+_, _-_, _*_, _/_, _%_, _^_, _≤_, _<_}
+use native.Mathlib.Nat.{le-trans, add-mul, mul-comm, mul-assoc, mul-left-comm, mul-le-mul, mul-le-mul-right, le-of-mul-le-mul-right, lt-of-mul-lt-mul-right, mod-eq-of-lt, le-div-iff-mul-le, div-lt-iff-lt-mul}
 use native.Mathlib.Omega.{arith}
 use lib.IntN.{ℤ, pos, natAbs, _+ℤ_, _-ℤ_, _*ℤ_}
 use lib.Pow.{pow-pos}
 use lib.Signed.{ltZ, quotZ}
-use Rattle.whole.proofs.Squares.{square-le, rotated-sizes}
+use Rattle.whole.proofs.Squares.{square-le, square-lt, four-power, scaled-square, rotated-sizes}
 use Rattle.whole.proofs.Division.{quot-most}
 use Rattle.number.specs.MulDiv.{withSign, mulDivOf}
 use Rattle.number.proofs.Roots.{root-is, root-only}
 use Rattle.number.proofs.Nearest.{mul-div-by, nearest-most, sign-size}
 use Rattle.plane.specs.Vectors.{Short, squareOf}
-use Rattle.plane.specs.Directions.{partOf, componentOf, directionOf, stepOf, rotatedOf, UnitLong}
+use Rattle.plane.specs.Directions.{partOf, componentOf, directionOf, stepOf, rotatedOf, UnitLong, Settles, Measures}
 use Rattle.plane.proofs.Products.{bits, back, short-fits}
 use mir.Syntax.{w64}
 use mir.Val.{SFits}
 use Rattle.plane.specs.declared.Vector.{Vector}
+use Rattle.plane.specs.declared.direction.Length.{Length}
 
 -- ---- a component
 
@@ -41,6 +43,31 @@ part-most c s n h k l =
     let m : n * n * s ≤ 2 ^ 60 * s = omega arith in
     square-le n (2 ^ 30) (omega (arith, le-of-mul-le-mul-right m h))
 
+-- as found where c is lifted by k and s by 2 * k
+module _ (c s k : ℕ) (h : c * c ≤ s) (f : s * 4 ^ k < 2 ^ 64) where
+  below : c * 2 ^ k < 2 ^ 32
+  below = square-lt _ (2 ^ 32) (omega (arith, scaled-square c k, mul-le-mul-right (4 ^ k) h))
+
+  lifted-c : c * 2 ^ k % 2 ^ 64 ≡ c * 2 ^ k
+  lifted-c = mod-eq-of-lt (omega (arith, below))
+
+  lifted-s : s * 2 ^ (2 * k) % 2 ^ 64 ≡ s * 4 ^ k
+  lifted-s = rw (← four-power k) (mod-eq-of-lt f)
+
+  pub lifted-below : c * 2 ^ k % 2 ^ 64 < 2 ^ 32
+  lifted-below = rw lifted-c below
+
+  lifted-square : c * 2 ^ k * (c * 2 ^ k) * 2 ^ 60 ≡ c * c * 2 ^ 60 * 4 ^ k
+  lifted-square = rw (scaled-square c k) (simp (mul-assoc, mul-comm) refl)
+
+  pub settled-part : (n : ℕ) {x : Bool} → 0 < s → Settles n (c * 2 ^ k % 2 ^ 64) (s * 2 ^ (2 * k) % 2 ^ 64) x → x ≡ true → n ≡ partOf c s
+  settled-part n z e t =
+      let l : n * n * (s * 4 ^ k) ≤ c * 2 ^ k * (c * 2 ^ k) * 2 ^ 60 = rw (lifted-c, lifted-s) at (e .low t) in
+      let u : c * 2 ^ k * (c * 2 ^ k) * 2 ^ 60 < (n + 1) * (n + 1) * (s * 4 ^ k) = rw (lifted-c, lifted-s) at (e .high t) in
+      part-only c s n z
+      (le-of-mul-le-mul-right {k = 4 ^ k} (omega (arith, l, lifted-square, mul-assoc (n * n) s (4 ^ k))) (rw (four-power k) (pow-pos (2 * k))))
+      (lt-of-mul-lt-mul-right (4 ^ k) (omega (arith, u, lifted-square, mul-assoc ((n + 1) * (n + 1)) s (4 ^ k))))
+
 -- ---- a direction
 
 component-size : (c : ℤ) (s : ℕ) → natAbs (componentOf c s) ≡ partOf (natAbs c) s
@@ -57,19 +84,28 @@ direction-unit v h =
     let k : m * m + n * n ≤ 2 ^ 60 = le-of-mul-le-mul-right {m = m * m + n * n} {n = 2 ^ 60} {k = s} (omega (arith, add-mul (m * m) (n * n) s, part-low (natAbs (v .x)) s h, part-low (natAbs (v .y)) s h)) h in
     record { length = rw (component-size (v .x) s, component-size (v .y) s) k }
 
--- from what the code has computed: m and n are the coordinates' sizes, p and q the components', a and b the components
-pub squares-are : (v : Vector) {m n : ℕ} → m ≡ natAbs (v .x) → n ≡ natAbs (v .y) → m * m + n * n ≡ squareOf v
-unfolding squareOf
-squares-are v e f = rw (e, f)
+-- what its parts ask for, of the size m of a coordinate
+module _ (v : Vector) (l : Length) (h : Short v) (k : 0 < squareOf v) (e : Measures v l) where
+  abbrev Asks : ℕ → Type 0
+  Asks m = (m ≤ 2 ^ 30) × (m * m ≤ l .square) × (0 < l .square) × (l .level ≤ 31) × (l .square * 4 ^ l .level < 2 ^ 64)
 
-pub direction-back : (v : Vector) {m n p q : ℕ} {a b : ℤ} → Short v → m ≡ natAbs (v .x) → n ≡ natAbs (v .y)
-    → p ≡ partOf m (m * m + n * n) → q ≡ partOf n (m * m + n * n) → a ≡ withSign (ltZ (bits (v .x)) (pos 0)) p → b ≡ withSign (ltZ (bits (v .y)) (pos 0)) q
+  pub asks-x : {m : ℕ} → m ≡ natAbs (v .x) → Asks m
+  unfolding squareOf
+  asks-x f = rw (f, e .square) (h .x .size, omega arith, k, e .level, e .fits)
+
+  pub asks-y : {m : ℕ} → m ≡ natAbs (v .y) → Asks m
+  unfolding squareOf
+  asks-y f = rw (f, e .square) (h .y .size, omega arith, k, e .level, e .fits)
+
+-- from what the code has computed: m and n are the coordinates' sizes, s is the squared length, p and q are the components' sizes, a and b the
+-- components
+pub direction-back : (v : Vector) {m n s p q : ℕ} {a b : ℤ} → Short v → m ≡ natAbs (v .x) → n ≡ natAbs (v .y) → s ≡ squareOf v
+    → p ≡ partOf m s → q ≡ partOf n s → a ≡ withSign (ltZ (bits (v .x)) (pos 0)) p → b ≡ withSign (ltZ (bits (v .y)) (pos 0)) q
     → SFits w64 a → SFits w64 b → record { x = bits a; y = bits b } ≡ directionOf v
 unfolding directionOf componentOf
-direction-back v {m} {n} {p} {q} {a} {b} h e f g i j k fa fb =
-    let s = squares-are v e f in
-    let p′ : p ≡ partOf (natAbs (v .x)) (squareOf v) = rw (s, e) at g in
-    let q′ : q ≡ partOf (natAbs (v .y)) (squareOf v) = rw (s, f) at i in
+direction-back v {m} {n} {s} {p} {q} {a} {b} h e f z g i j k fa fb =
+    let p′ : p ≡ partOf (natAbs (v .x)) (squareOf v) = rw (z, e) at g in
+    let q′ : q ≡ partOf (natAbs (v .y)) (squareOf v) = rw (z, f) at i in
     let a′ : a ≡ withSign (ltZ (v .x) (pos 0)) p = rw (back (short-fits (h .x))) at j in
     let b′ : b ≡ withSign (ltZ (v .y) (pos 0)) q = rw (back (short-fits (h .y))) at k in
     rw (back fa, back fb, a′, b′, p′, q′)

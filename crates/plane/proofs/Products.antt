@@ -76,6 +76,12 @@ cross-size h k = size-sub (2 ^ 60) (2 ^ 60) _ _ (size-mul (2 ^ 30) (2 ^ 30) _ _ 
 
 -- ---- from what the code has computed on bits to the definitions
 
+pub factor-back : {a r : ℤ} → Size (2 ^ 30) a → r ≡ bits a → bits r ≡ a
+factor-back h e = rw (e, back (short-fits h)) (back (short-fits h))
+
+pub product-back : {a b r : ℤ} → Size (2 ^ 30) a → Size (2 ^ 30) b → r ≡ bits a *ℤ bits b → bits r ≡ a *ℤ b
+product-back h k e = rw (e, back (short-fits h), back (short-fits k)) (back (product-fits h k))
+
 module _ (u v : Vector) (r : ℤ) (h : Short u) (k : Short v) where
   pub cross-back : r ≡ bits (u .x) *ℤ bits (v .y) -ℤ bits (u .y) *ℤ bits (v .x) → bits r ≡ crossOf u v
   unfolding crossOf

@@ -1,5 +1,7 @@
 -- Document 01, "Numbers underneath": directions, the steps of the grades, rotation and scaling.
-use Prim.Native.Nat.{ℕ, _+_, _-_, _*_, _/_, _^_, _≤_}
+use mathlib.Core.Path.{_≡_}
+use mathlib.Core.Bool.{Bool, true}
+use Prim.Native.Nat.{ℕ, _+_, _-_, _*_, _/_, _^_, _≤_, _<_}
 use lib.IntN.{ℤ, pos, natAbs, _+ℤ_, _-ℤ_, _*ℤ_}
 use lib.Signed.{ltZ, quotZ}
 use Rattle.number.specs.Root.{rootOf}
@@ -7,6 +9,7 @@ use Rattle.number.specs.MulDiv.{withSign, mulDivOf}
 use Rattle.plane.specs.Vectors.{squareOf}
 use Rattle.plane.specs.declared.Point.{Point}
 use Rattle.plane.specs.declared.Vector.{Vector}
+use Rattle.plane.specs.declared.direction.Length.{Length}
 
 -- The size of a direction's component, from that of the coordinate c and the vector's squared length s: the largest n with n²·s ≤ c²·2^60.
 unfoldable pub partOf : ℕ → ℕ → ℕ
@@ -38,3 +41,16 @@ scaledOf c r d = record { x = c .x +ℤ mulDivOf (d .x) r (2 ^ 30); y = c .y +�
 -- no longer than 2^30, as directions and steps are
 pub record UnitLong (v : Vector) : Type 0 where
   pub length : squareOf v ≤ 2 ^ 60
+
+-- ---- what a direction is found by
+
+-- whether n is surely the largest with n²·t ≤ c²·2^60; where it is not told, n may be or not
+pub record Settles (n c t : ℕ) (x : Bool) : Type 0 where
+  pub low : x ≡ true → n * n * t ≤ c * c * 2 ^ 60
+  pub high : x ≡ true → c * c * 2 ^ 60 < (n + 1) * (n + 1) * t
+
+-- the squared length of v, and a level at which that still fits 64 bits
+pub record Measures (v : Vector) (l : Length) : Type 0 where
+  pub square : l .square ≡ squareOf v
+  pub level : l .level ≤ 31
+  pub fits : squareOf v * 4 ^ l .level < 2 ^ 64

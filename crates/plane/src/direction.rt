@@ -1,16 +1,17 @@
 // The direction of a vector, by a guess that exact tests settle, and the step of a grade.
 use crate::Vector;
-use number::guess::high;
+use crate::vectors::square;
 use number::guess::level;
 use number::guess::reciprocal_root;
 use number::sign::signed;
 use number::sign::size;
+use number::wide::high;
 use number::wide::product;
 ghost use mathlib.Core.Path.{_≡_};
 ghost use Prim.Native.Nat.{_+_, _*_, _^_, _<_, _≤_};
 ghost use lib.Dec.{leb};
 ghost use Rattle.plane.specs.Vectors.{Short, squareOf};
-ghost use Rattle.plane.specs.Directions.{partOf, directionOf, stepOf};
+ghost use Rattle.plane.specs.Directions.{partOf, directionOf, stepOf, Settles, Measures};
 
 // Whether the number a * 2^64 + b is at most p * 2^64 + q.
 fn at_most(a: u64, b: u64, p: u64, q: u64) -> bool
@@ -62,29 +63,65 @@ fn guess(c: u64, k: u32, h: u64) -> u64
     if g < 0x4000_0000 { g } else { 0x4000_0000 }
 }
 
-// The size of a direction's component: the largest n with n * n * s <= c * c * 2^60.
-fn part(c: u64, s: u64, k: u32, h: u64) -> u64
-    requires { ⌜ (c ≤ 2 ^ 30) × (c * c ≤ s) × (0 < s) × (k ≤ 31) ⌝ }
-    ensures { λ r. ⌜ (r ≡ partOf c s) × (r ≤ 2 ^ 30) ⌝ }
+// Whether n is surely the largest with n * n * t <= c * c * 2^60, by upper limbs alone: what n * n * t leaves of c * c * 2^60 is more than
+// nothing and less than (2 * n + 1) * t.
+fn settled(n: u64, c: u64, t: u64) -> bool
+    requires { ⌜ (n ≤ 2 ^ 30) × (c < 2 ^ 32) ⌝ }
+    ensures { λ r. ⌜ Settles n c t r ⌝ }
 {
-    up(down(guess(c, k, h), c, s), c, s)
+    let p = high(n * n, t);
+    let e = c * c / 16;
+    let d = (2 * n + 1) * (t / 0x1_0000_0000) / 0x1_0000_0000;
+    p < e && e < p + d
 }
 
-// The direction of a vector that is not zero.
-pub fn direction(v: Vector) -> Vector
+// The size of a direction's component: the largest n with n * n * s <= c * c * 2^60.
+fn part(c: u64, s: u64, k: u32, h: u64) -> u64
+    requires { ⌜ (c ≤ 2 ^ 30) × (c * c ≤ s) × (0 < s) × (k ≤ 31) × (s * 4 ^ k < 2 ^ 64) ⌝ }
+    ensures { λ r. ⌜ (r ≡ partOf c s) × (r ≤ 2 ^ 30) ⌝ }
+{
+    let g = guess(c, k, h);
+    if settled(g, c << k, s << (2 * k)) {
+        return g;
+    }
+    up(down(g, c, s), c, s)
+}
+
+// What a direction is taken by: the squared length, its level, and a number near the reciprocal of its root.
+pub struct Length {
+    pub square: u64,
+    pub level: u32,
+    pub reciprocal: u64,
+}
+
+// The length of a vector that is not zero.
+pub fn measured(v: Vector) -> Length
     requires { ⌜ Short v × (0 < squareOf v) ⌝ }
+    ensures { λ l. ⌜ Measures v l ⌝ }
+{
+    let s = square(v);
+    let k = level(s);
+    let h = reciprocal_root(s << (2 * k));
+    Length {
+        square: s,
+        level: k,
+        reciprocal: h,
+    }
+}
+
+// The direction of a vector that is not zero, by its length.
+pub fn direction(v: Vector, l: Length) -> Vector
+    requires { ⌜ Short v × (0 < squareOf v) × Measures v l ⌝ }
     ensures { λ r. ⌜ r ≡ directionOf v ⌝ }
 {
     let x = v.x;
     let y = v.y;
-    let m = size(x);
-    let n = size(y);
-    let s = m * m + n * n;
-    let k = level(s);
-    let h = reciprocal_root(s << (2 * k));
+    let s = l.square;
+    let k = l.level;
+    let h = l.reciprocal;
     Vector {
-        x: signed(x < 0, part(m, s, k, h)),
-        y: signed(y < 0, part(n, s, k, h)),
+        x: signed(x < 0, part(size(x), s, k, h)),
+        y: signed(y < 0, part(size(y), s, k, h)),
     }
 }
 

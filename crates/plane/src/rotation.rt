@@ -2,9 +2,10 @@
 use crate::Vector;
 use crate::vectors::difference;
 use crate::vectors::sum;
+use crate::vectors::times;
 ghost use mathlib.Core.Path.{_≡_};
 ghost use Prim.Native.Nat.{_^_, _≤_};
-ghost use lib.IntN.{pos, natAbs, _+ℤ_, _*ℤ_, _-ℤ_};
+ghost use lib.IntN.{pos, natAbs, _+ℤ_};
 ghost use lib.Signed.{quotZ, shrZ};
 ghost use Rattle.whole.specs.Sizes.{Size};
 ghost use Rattle.number.specs.MulDiv.{mulDivOf};
@@ -34,14 +35,6 @@ fn rounded(z: i64, h: i64) -> i64
     ensures { λ r. ⌜ r ≡ shrZ (z +ℤ h) (2 ^ 30) ⌝ }
 {
     (z + h) >> 30
-}
-
-// d * r.
-fn times(d: i64, r: i64) -> i64
-    requires { ⌜ Size (2 ^ 30) d × Size (2 ^ 30) r ⌝ }
-    ensures { λ z. ⌜ z ≡ d *ℤ r ⌝ }
-{
-    d * r
 }
 
 // A direction's component scaled by a radius: d * r / 2^30, to the nearest whole number, halves away from zero; so a negative product, which is

@@ -34,12 +34,28 @@ pub fn from_to(p: Point, q: Point) -> Vector
     }
 }
 
+// a, by its lower half, which holds all of it: so a product of two such is one short multiplication.
+fn low(a: i64) -> i64
+    requires { ⌜ Size (2 ^ 30) a ⌝ }
+    ensures { λ r. ⌜ r ≡ a ⌝ }
+{
+    (a as i32) as i64
+}
+
+// a * b.
+pub fn times(a: i64, b: i64) -> i64
+    requires { ⌜ Size (2 ^ 30) a × Size (2 ^ 30) b ⌝ }
+    ensures { λ r. ⌜ r ≡ a *ℤ b ⌝ }
+{
+    low(a) * low(b)
+}
+
 // a * b - c * d.
 pub fn difference(a: i64, b: i64, c: i64, d: i64) -> i64
     requires { ⌜ Size (2 ^ 30) a × Size (2 ^ 30) b × Size (2 ^ 30) c × Size (2 ^ 30) d ⌝ }
     ensures { λ r. ⌜ r ≡ a *ℤ b -ℤ c *ℤ d ⌝ }
 {
-    a * b - c * d
+    times(a, b) - times(c, d)
 }
 
 // a * b + c * d.
@@ -47,7 +63,7 @@ pub fn sum(a: i64, b: i64, c: i64, d: i64) -> i64
     requires { ⌜ Size (2 ^ 30) a × Size (2 ^ 30) b × Size (2 ^ 30) c × Size (2 ^ 30) d ⌝ }
     ensures { λ r. ⌜ r ≡ a *ℤ b +ℤ c *ℤ d ⌝ }
 {
-    a * b + c * d
+    times(a, b) + times(c, d)
 }
 
 // The cross product.

@@ -82,7 +82,8 @@ pub fn direction(x: Number, y: Number) -> Answer {
     if x.size + y.size == 0 {
         return Answer::Outside;
     }
-    let way = plane::direction::direction(vector(x, y));
+    let v = vector(x, y);
+    let way = plane::direction::direction(v, plane::direction::measured(v));
     Answer::Two(way.x, way.y)
 }
 

@@ -1,6 +1,6 @@
 -- Covering: one law for each case, with what the code has computed, on bits where it is signed, as variables and equations. Assumes nothing.
 use mathlib.Core.Path.{_≡_, refl, sym, _∙_}
-use mathlib.Core.Bool.{Bool, true, false, not, true≢false}
+use mathlib.Core.Bool.{Bool, true, false, not, _&&_, true≢false}
 use Prim.Native.Nat.{ℕ, _*_, _^_}
 use native.Mathlib.Omega.{arith}
 use borrow.Author.Tests.{eq-eqb, ne-eqb, not-true, not-false, ltb-true}
@@ -116,6 +116,10 @@ module _ (r z : ℤ) (n : ℕ) {i : Bool} (h : Radius r) (f : SFits w64 z) (e : 
 
 -- ---- all sides, one after another, with the turn z
 
+and-false : (x : Bool) → x && false ≡ false
+and-false true = refl
+and-false false = refl
+
 module _ (s : Section) (b : Vertex) {z : ℤ} (e : z ≡ turnOf s) (f : SFits w64 z) where
   side : (p q : Point) {x y : Bool} → x ≡ insideOf (bits z) b p q → x ≡ y → insideOf (turnOf s) b p q ≡ y
   side p q {x} g t = let g′ : x ≡ insideOf (turnOf s) b p q = rw (back f, e) at g in sym g′ ∙ t
@@ -127,25 +131,25 @@ module _ (s : Section) (b : Vertex) {z : ℤ} (e : z ≡ turnOf s) (f : SFits w6
   unfolding coversOf
   covers-flat t = rw (flat (eq-eqb (ofZ w64 z) 0 t))
 
-  module _ (t : ofZ w64 z ≡ 0 → ⊥) {x₁ : Bool} (g₁ : x₁ ≡ insideOf (bits z) b (s .left .a) (s .left .b)) where
+  module _ (t : ofZ w64 z ≡ 0 → ⊥) {x₁ : Bool} (g₁ : x₁ ≡ insideOf (bits z) b (s .left .b) (s .right .b)) where
     turns : sameNumber (turnOf s) (pos 0) ≡ false
     turns = flat (ne-eqb (ofZ w64 z) 0 t)
 
     pub covers-first : not x₁ ≡ true → false ≡ coversOf s b
     unfolding coversOf
-    covers-first k = rw (turns, side (s .left .a) (s .left .b) g₁ (not-true x₁ k))
+    covers-first k = rw (turns, side (s .left .b) (s .right .b) g₁ (not-true x₁ k), and-false)
 
-    module _ (k₁ : not x₁ ≡ false) {x₂ : Bool} (g₂ : x₂ ≡ insideOf (bits z) b (s .left .b) (s .right .b)) where
-      first : insideOf (turnOf s) b (s .left .a) (s .left .b) ≡ true
-      first = side (s .left .a) (s .left .b) g₁ (not-false x₁ k₁)
+    module _ (k₁ : not x₁ ≡ false) {x₂ : Bool} (g₂ : x₂ ≡ insideOf (bits z) b (s .left .a) (s .left .b)) where
+      first : insideOf (turnOf s) b (s .left .b) (s .right .b) ≡ true
+      first = side (s .left .b) (s .right .b) g₁ (not-false x₁ k₁)
 
       pub covers-second : not x₂ ≡ true → false ≡ coversOf s b
       unfolding coversOf
-      covers-second k = rw (turns, first, side (s .left .b) (s .right .b) g₂ (not-true x₂ k))
+      covers-second k = rw (turns, side (s .left .a) (s .left .b) g₂ (not-true x₂ k))
 
       module _ (k₂ : not x₂ ≡ false) {x₃ : Bool} (g₃ : x₃ ≡ insideOf (bits z) b (s .right .b) (s .right .a)) where
-        second : insideOf (turnOf s) b (s .left .b) (s .right .b) ≡ true
-        second = side (s .left .b) (s .right .b) g₂ (not-false x₂ k₂)
+        second : insideOf (turnOf s) b (s .left .a) (s .left .b) ≡ true
+        second = side (s .left .a) (s .left .b) g₂ (not-false x₂ k₂)
 
         pub covers-third : not x₃ ≡ true → false ≡ coversOf s b
         unfolding coversOf

@@ -100,10 +100,11 @@ pub fn covers_circle(s: Section, b: Vertex) -> bool
     if t == 0 {
         return false;
     }
-    if !inside(t, b, a_left, b_left) {
+    // the end's side first: a path that goes on is outside that one
+    if !inside(t, b, b_left, b_right) {
         return false;
     }
-    if !inside(t, b, b_left, b_right) {
+    if !inside(t, b, a_left, b_left) {
         return false;
     }
     if !inside(t, b, b_right, a_right) {

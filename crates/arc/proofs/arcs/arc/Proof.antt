@@ -19,7 +19,7 @@ abbrev first : tie.Else1 → tie.Start
 first c = c .before .before .before .before .before
 
 abbrev second : tie.After-full → tie.Start
-second c = first (c .before .before .before)
+second c = first (c .before .before .before .before .before)
 
 -- both rays have directions
 some : (c : tie.Else1) → let a = first c .args in (0 < squareOf (fromTo (a .c) (a .p))) × (0 < squareOf (fromTo (a .c) (a .q)))
@@ -29,7 +29,7 @@ some c = not-empty-some _ _ _ _ (sym (c .before .empty .ensures) ∙ c .if1 .lef
 full-arc : (c : tie.Then2) → let a = second (c .before) .args in arcOf (a .t) (a .c) (a .radius) (a .p) (a .q) (a .choice) ≡ circleOf (a .t) (a .c) (ringOf (fromTo (a .c) (a .p))) ++ edgeOf (a .p) (a .q)
 full-arc c =
     let d = c .before .before in
-    let b = d .before .before in
+    let b = d .before .before .before .before in
     let r = b .before .before .before in
     arc-full _ _ _ _ _ _ (r .before .from-to .ensures) (r .from-to2 .ensures) (b .before .before .sweep .ensures) (b .before .empty .ensures) (b .if1 .left)
     (d .before .direction .ensures) (d .direction2 .ensures) (c .before .full .ensures) (c .if2 .taken)
@@ -38,7 +38,7 @@ turned-arc : (c : tie.Else2) → let a = second (c .before) .args in arcOf (a .t
     ≡ turnsOf 1536 (record { step = a .t; centre = a .c; radius = bits (a .radius); to = a .q; toward = c .before .before .direction2 .result }) (c .before .before .before .direction .result) (a .p)
 turned-arc c =
     let d = c .before .before in
-    let b = d .before .before in
+    let b = d .before .before .before .before in
     let r = b .before .before .before in
     arc-swept _ _ _ _ _ _ (r .before .from-to .ensures) (r .from-to2 .ensures) (b .before .before .sweep .ensures) (b .before .empty .ensures) (b .if1 .left)
     (d .before .direction .ensures) (d .direction2 .ensures) (c .before .full .ensures) (c .if2 .left)
@@ -59,21 +59,28 @@ empty-requires c κs = search needs
 returns : tie.Need-returns
 returns c = runs-as (arc-empty _ _ _ _ _ _ (c .before .before .before .before .from-to .ensures) (c .before .before .before .from-to2 .ensures) (c .before .before .sweep .ensures) (c .before .empty .ensures) (c .if1 .taken)) runs-none
 
+measured-requires : tie.Need-measured-requires
+measured-requires c κs = (short-told (first c .pre .0 .3) (c .before .before .before .before .from-to .ensures), some-told (c .before .before .before .before .from-to .ensures) (some c .0))
+
+measured-requires-2 : tie.Need-measured-requires-2
+measured-requires-2 c κs = (short-told (first (c .before) .pre .0 .4) (c .before .before .before .before .from-to2 .ensures), some-told (c .before .before .before .before .from-to2 .ensures) (some (c .before) .1))
+
 direction-requires : tie.Need-direction-requires
-direction-requires c κs = (short-told (first c .pre .0 .3) (c .before .before .before .before .from-to .ensures), some-told (c .before .before .before .before .from-to .ensures) (some c .0))
+direction-requires c κs = let h = measured-requires (c .before .before) κs in (h .0, h .1, c .before .measured .ensures)
 
 direction-requires-2 : tie.Need-direction-requires-2
-direction-requires-2 c κs = (short-told (first (c .before) .pre .0 .4) (c .before .before .before .before .from-to2 .ensures), some-told (c .before .before .before .before .from-to2 .ensures) (some (c .before) .1))
+direction-requires-2 c κs = let h = measured-requires-2 (c .before .before) κs in (h .0, h .1, c .before .measured2 .ensures)
 
 full-requires : tie.Need-full-requires
 full-requires c κs =
-    let s = some (c .before .before) in
-    (unit-told (c .before .before .before .before .before .before .from-to .ensures) (s .0) (c .before .direction .ensures), unit-told (c .before .before .before .before .before .from-to2 .ensures) (s .1) (c .direction2 .ensures))
+    let b = c .before .before .before .before in
+    let s = some b in
+    (unit-told (b .before .before .before .before .from-to .ensures) (s .0) (c .before .direction .ensures), unit-told (b .before .before .before .from-to2 .ensures) (s .1) (c .direction2 .ensures))
 
 ring-requires : tie.Need-ring-requires
 ring-requires c κs =
-    let h = c .before .before .before .before .before .before .before .before .before .before .pre .0 in
-    ((h .0, h .1, h .3, h .4), room-as (full-arc (c .before)) (c .before .before .before .before .before .before .before .before .before .before .pre .1))
+    let h = c .before .before .before .before .before .before .before .before .before .before .before .before .pre .0 in
+    ((h .0, h .1, h .3, h .4), room-as (full-arc (c .before)) (c .before .before .before .before .before .before .before .before .before .before .before .before .pre .1))
 
 same-length : tie.Need-same-length
 same-length c = search needs
@@ -83,11 +90,12 @@ returns-2 c = runs-as (full-arc (c .before .before .before)) (c .before .ring .e
 
 turns-requires : tie.Need-turns-requires
 turns-requires c κs =
-    let h = c .before .before .before .before .before .before .before .before .before .before .pre .0 in
-    let s = some (c .before .before .before .before .before) in
-    let d = unit-told (c .before .before .before .before .before .before .before .before .before .from-to .ensures) (s .0) (c .before .before .before .before .direction .ensures) in
-    let e = unit-told (c .before .before .before .before .before .before .before .before .from-to2 .ensures) (s .1) (c .before .before .before .direction2 .ensures) in
-    (turns-within (h .0) (h .1) (h .2) (about-near (h .4) (h .1)) e, ((d, about-near (h .3) (h .1)), room-as (turned-arc (c .before)) (c .before .before .before .before .before .before .before .before .before .before .pre .1)))
+    let h = c .before .before .before .before .before .before .before .before .before .before .before .before .pre .0 in
+    let b = c .before .before .before .before .before .before .before in
+    let s = some b in
+    let d = unit-told (b .before .before .before .before .from-to .ensures) (s .0) (c .before .before .before .before .direction .ensures) in
+    let e = unit-told (b .before .before .before .from-to2 .ensures) (s .1) (c .before .before .before .direction2 .ensures) in
+    (turns-within (h .0) (h .1) (h .2) (about-near (h .4) (h .1)) e, ((d, about-near (h .3) (h .1)), room-as (turned-arc (c .before)) (c .before .before .before .before .before .before .before .before .before .before .before .before .pre .1)))
 
 same-length-2 : tie.Need-same-length-2
 same-length-2 c = search needs
@@ -104,6 +112,8 @@ arc-spec =
     sweep-requires
     empty-requires
     returns
+    measured-requires
+    measured-requires-2
     direction-requires
     direction-requires-2
     full-requires

@@ -11,6 +11,9 @@ add-result c = omega (arith, room-one _ (c .before .pre .1))
 returns : tie.Need-returns
 returns c = edge-past _ (c .if1 .taken)
 
+sub-if2 : tie.Need-sub-if2
+sub-if2 c = omega (arith, c .if1 .left)
+
 store-requires : tie.Need-store-requires
 store-requires c κs = search needs
 
@@ -20,5 +23,25 @@ same-length c = search needs
 returns-2 : tie.Need-returns-2
 returns-2 c = search needs
 
+store-some-requires : tie.Need-store-some-requires
+store-some-requires c κs = search needs
+
+same-length-2 : tie.Need-same-length-2
+same-length-2 c = search needs
+
+returns-3 : tie.Need-returns-3
+returns-3 c = search needs
+
 pub emit-spec : {M : Type 1} → statement M
-emit-spec = tie.close (tie.spec add-result returns store-requires same-length returns-2)
+emit-spec =
+    tie.close
+    (tie.spec
+    add-result
+    returns
+    sub-if2
+    store-requires
+    same-length
+    returns-2
+    store-some-requires
+    same-length-2
+    returns-3)

@@ -1,20 +1,31 @@
 -- `plane::vectors::sum` meets its contract: within the limits nothing on the way overflows. Assumes nothing.
+use mathlib.Core.Path.{_≡_}
 use borrow.Author.Needs.{needs}
-use Rattle.plane.proofs.Products.{products}
+use lib.IntN.{_*ℤ_}
+use Rattle.plane.proofs.Products.{bits, back, product-back, sum-fits}
 use Rattle.plane.proofs.vectors.sum.Statement.{statement}
 use Rattle.plane.proofs.vectors.sum.Tie as tie
 
-mul-result : tie.Need-mul-result
-mul-result c = search (needs, products)
+times-requires : tie.Need-times-requires
+times-requires c κs = search needs
 
-mul-result-2 : tie.Need-mul-result-2
-mul-result-2 c = search (needs, products)
+times-requires-2 : tie.Need-times-requires-2
+times-requires-2 c κs = search needs
+
+abbrev start : tie.After-times2 → tie.Start
+start c = c .before .before
+
+left : (c : tie.After-times2) → bits (c .before .times .result) ≡ start c .args .a *ℤ start c .args .b
+left c = product-back (start c .pre .0) (start c .pre .1) (c .before .times .ensures)
+
+right : (c : tie.After-times2) → bits (c .times2 .result) ≡ start c .args .c *ℤ start c .args .d
+right c = product-back (start c .pre .2) (start c .pre .3) (c .times2 .ensures)
 
 add-result : tie.Need-add-result
-add-result c = search (needs, products)
+add-result c = rw (left c, right c) (sum-fits (start c .pre .0) (start c .pre .1) (start c .pre .2) (start c .pre .3))
 
 returns : tie.Need-returns
-returns c = search (needs, products)
+returns c = rw (left c, right c) (back (sum-fits (start c .pre .0) (start c .pre .1) (start c .pre .2) (start c .pre .3)))
 
 pub sum-spec : {M : Type 1} → statement M
-sum-spec = tie.close (tie.spec mul-result mul-result-2 add-result returns)
+sum-spec = tie.close (tie.spec times-requires times-requires-2 add-result returns)

@@ -19,10 +19,13 @@ returns-3 c = search needs
 vector-requires : tie.Need-vector-requires
 vector-requires c κs = search needs
 
-direction-requires : tie.Need-direction-requires
-direction-requires c κs =
+measured-requires : tie.Need-measured-requires
+measured-requires c κs =
     let w = c .vector .ensures in
     (sizes-short _ (w .0) (w .1) (c .before .before .before .before .before .before .if1 .left) (c .before .before .before .before .if2 .left), sizes-above _ (w .0) (w .1) (c .before .if3 .left))
+
+direction-requires : tie.Need-direction-requires
+direction-requires c κs = let h = measured-requires (c .before) κs in (h .0, h .1, c .measured .ensures)
 
 returns-4 : tie.Need-returns-4
 returns-4 c = search needs
@@ -30,4 +33,4 @@ returns-4 c = search needs
 pub direction-spec : {M : Type 1} → statement M
 direction-spec =
     tie.close
-    (tie.spec returns returns-2 add-if3 returns-3 vector-requires direction-requires returns-4)
+    (tie.spec returns returns-2 add-if3 returns-3 vector-requires measured-requires direction-requires returns-4)

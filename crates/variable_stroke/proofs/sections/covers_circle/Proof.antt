@@ -19,7 +19,7 @@ inside-requires : tie.Need-inside-requires
 inside-requires c κs =
     let s = c .before .before .before .before .before .before in
     let k = corners (s .pre .0) in
-    (s .pre .1, k .left-a, k .left-b)
+    (s .pre .1, k .left-b, k .right-b)
 
 returns-2 : tie.Need-returns-2
 returns-2 c =
@@ -31,7 +31,7 @@ inside-requires-2 : tie.Need-inside-requires-2
 inside-requires-2 c κs =
     let s = c .before .before .before .before .before .before .before .before in
     let k = corners (s .pre .0) in
-    (s .pre .1, k .left-b, k .right-b)
+    (s .pre .1, k .left-a, k .left-b)
 
 returns-3 : tie.Need-returns-3
 returns-3 c =
