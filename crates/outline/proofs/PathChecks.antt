@@ -1,5 +1,5 @@
 -- The rows of a path, one law for each outcome of its tests; and what draw makes of a path that passed. Assumes nothing.
-use mathlib.Core.Path.{_≡_, sym, ap, _∙_}
+use mathlib.Core.Path.{_≡_, refl, sym, ap, _∙_}
 use mathlib.Core.List.{List, _++_}
 use Prim.Native.Nat.{ℕ, _+_, _-_, _*_, _/_, _%_, _≤_, _<_}
 use native.Mathlib.Nat.{le-antisymm}
@@ -8,6 +8,7 @@ use lib.IntN.{ℤ}
 use lib.ListN.{length}
 use borrow.Author.Tests.{eq-eqb, ne-eqb, lt-ltb, le-ltb}
 use Rattle.runs.specs.Runs.{spread, Runs, Room, put}
+use Rattle.runs.proofs.Laws.{runs-none, runs-as}
 use Rattle.runs.proofs.Written.{written-whole}
 use Rattle.plane.specs.Directions.{stepOf}
 use Rattle.plane.specs.declared.Vector.{Vector}
@@ -17,7 +18,7 @@ use Rattle.arc.specs.declared.Edge.{Edge}
 use Rattle.variable_stroke.specs.Limits.{firstOutside}
 use Rattle.variable_stroke.specs.Paths.{pathOf, bodiesAt, bodiesOf, joined, edgesOf}
 use Rattle.variable_stroke.proofs.Most.{edges-most}
-use Rattle.variable_stroke.proofs.PathWalk.{path-count}
+use Rattle.variable_stroke.proofs.PathWalk.{path-count, edges-none}
 use Rattle.variable_stroke.specs.declared.Vertex.{Vertex}
 use Rattle.outline.specs.Replies.{Reply, Row, firstRow, triplesRow, gradeRow, countRow, outsideRow, pathRows, drawReply, drawOut}
 use Rattle.outline.specs.Answers.{refusalOf, replyOfDrawn, Draws}
@@ -128,6 +129,10 @@ draws-done path {g} {n} {w} {t} {out} {out₁} h e p k =
       reply = r;
       out = written-whole (rw (walk-edges g (pathOf path) e) at p) (omega (arith, numbers path h e p, edges-four es)) ∙ done-written (w / 4) (spread edgeNumbers es) out r;
     }
+
+-- a path of no vertices has no edges
+pub draws-none : (path : List ℤ) {g n : ℕ} (out : List ℤ) → Fits path g n → n ≡ 0 → Draws path g out (drawn.Edges 0) out
+draws-none path {g} out h e = draws-done path h refl (runs-as (edges-none (stepOf g) (pathOf path) (omega (arith, h .count))) runs-none) (omega arith)
 
 -- whatever further rows say, a refusal of the path's rows is the reply
 pub path-refuses : (path : List ℤ) {g : ℕ} {c : PathCheck} {r : Refusal} (more : List Row) (last : Reply) → PathSays path g c → c ≡ Refused r → refusalOf r ≡ firstRow (pathRows path g ++ more) last

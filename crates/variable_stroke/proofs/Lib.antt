@@ -9,4 +9,5 @@ pub mod Covers
 pub mod CapsAndJoins
 pub mod ChainSteps
 pub mod PathWalk
+pub mod Stands
 pub mod Reach

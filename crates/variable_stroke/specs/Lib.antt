@@ -8,3 +8,4 @@ pub mod Paths
 pub mod Local
 pub mod Bounds
 pub mod Steps
+pub mod Stands

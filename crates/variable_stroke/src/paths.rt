@@ -3,13 +3,15 @@ use crate::Vertex;
 use crate::Walk;
 use plane::Vector;
 ghost use mathlib.Core.Path.{_≡_};
-ghost use Prim.Native.Nat.{_<_};
-ghost use lib.ListN.{length, getD};
+ghost use Prim.Native.Nat.{_≤_, _<_};
+ghost use lib.ListN.{length, getD, drop};
 ghost use Rattle.runs.specs.Runs.{Runs, Room, put};
 ghost use Rattle.plane.specs.Directions.{UnitLong};
 ghost use Rattle.arc.specs.Edges.{edgeNumbers};
 ghost use Rattle.variable_stroke.specs.Limits.{allowedOf, firstOutside};
-ghost use Rattle.variable_stroke.specs.Paths.{pathOf, none, bodiesAt, joined};
+ghost use Rattle.variable_stroke.specs.Bounds.{AroundWalk};
+ghost use Rattle.variable_stroke.specs.Paths.{pathOf, none, bodiesFrom, bodiesAt, joined};
+ghost use Rattle.variable_stroke.specs.Stands.{firstStand, Begins};
 
 // A number with more room.
 fn wide(x: i32) -> i64
@@ -68,6 +70,93 @@ pub fn first_outside(path: &[i32], n: usize) -> usize
     k
 }
 
+// Where a walk stands: the walk, the vertex that it goes to next, and where the output has come to.
+pub struct Stand {
+    pub walk: Walk,
+    pub next: usize,
+    pub at: usize,
+}
+
+// Where a walk stood last with every edge so far within the room, and where it stands one step on, if there is one.
+pub struct Begun {
+    pub within: Stand,
+    pub past: Stand,
+}
+
+// The stand at the first vertex.
+fn first_stand(path: &[i32]) -> Stand
+    requires { ⌜ 0 < length (pathOf (now path)) ⌝ }
+    ensures { λ s. ⌜ s ≡ firstStand (getD (pathOf (now (path .entry))) 0 none) ⌝ }
+{
+    Stand {
+        walk: Walk::new(vertex(path, 0)),
+        next: 1,
+        at: 0,
+    }
+}
+
+// The steps whose edges all lie within the room, and one more where that overflows it.
+pub fn begin(path: &[i32], n: usize, t: Vector, out: &mut [i32]) -> Begun
+    requires { ⌜ (n ≡ length (pathOf (now path))) × (firstOutside (pathOf (now path)) ≡ length (pathOf (now path))) × UnitLong t × (0 < n) ⌝ }
+    requires { ⌜ Room edgeNumbers 0 (joined (bodiesAt t (pathOf (now path)))) ⌝ }
+    ensures { λ r. ⌜ Begins t (pathOf (now (path .entry))) (now (out .exit)) r ⌝ }
+{
+    let first = first_stand(path);
+    let mut w = first.walk;
+    let mut at = first.at;
+    let mut k = first.next;
+    while k < n {
+        let s = w.step(out, at, t, vertex(path, k));
+        let on = s.walk;
+        let next = k + 1;
+        if out.len() < s.at {
+            return Begun {
+                within: Stand {
+                    walk: w,
+                    next: k,
+                    at,
+                },
+                past: Stand {
+                    walk: on,
+                    next,
+                    at: s.at,
+                },
+            };
+        }
+        w = on;
+        at = s.at;
+        k = next;
+    }
+    let end = Stand {
+        walk: w,
+        next: k,
+        at,
+    };
+    Begun {
+        within: end,
+        past: end,
+    }
+}
+
+// The edges that a walk still has to emit, and the closing body.
+pub fn go_on(path: &[i32], n: usize, t: Vector, from: Stand, out: &mut [i32]) -> usize
+    requires { ⌜ (n ≡ length (pathOf (now path))) × (firstOutside (pathOf (now path)) ≡ length (pathOf (now path))) × UnitLong t × AroundWalk (from .walk) × (from .next ≤ n) ⌝ }
+    requires { ⌜ Room edgeNumbers (from .at) (joined (bodiesFrom t (from .walk) (drop (from .next) (pathOf (now path))))) ⌝ }
+    ensures { λ r. ⌜ Runs put edgeNumbers (now (out .entry)) (from .at) (joined (bodiesFrom t (from .walk) (drop (from .next) (pathOf (now (path .entry)))))) (now (out .exit)) r ⌝ }
+{
+    let mut w = from.walk;
+    let mut at = from.at;
+    let mut k = from.next;
+    while k < n {
+        let b = vertex(path, k);
+        let s = w.step(out, at, t, b);
+        w = s.walk;
+        at = s.at;
+        k += 1;
+    }
+    w.close(out, at, t)
+}
+
 // Every edge of a path within the limits.
 pub fn walk(path: &[i32], n: usize, t: Vector, out: &mut [i32]) -> usize
     requires { ⌜ (n ≡ length (pathOf (now path))) × (firstOutside (pathOf (now path)) ≡ length (pathOf (now path))) × UnitLong t ⌝ }
@@ -77,15 +166,5 @@ pub fn walk(path: &[i32], n: usize, t: Vector, out: &mut [i32]) -> usize
     if n == 0 {
         return 0;
     }
-    let mut w = Walk::new(vertex(path, 0));
-    let mut at: usize = 0;
-    let mut k: usize = 1;
-    while k < n {
-        let b = vertex(path, k);
-        let s = w.step(out, at, t, b);
-        w = s.walk;
-        at = s.at;
-        k += 1;
-    }
-    w.close(out, at, t)
+    go_on(path, n, t, first_stand(path), out)
 }
