@@ -46,9 +46,9 @@
  *   replaced outline that shrank (see sehmelir_replace).
  *
  * The calls allocate nothing, keep nothing between calls, and may run in
- * several threads at once. On the stack sehmelir_keep, sehmelir_read and
- * sehmelir_replace take up to 256 KiB, so a thread that calls them needs more
- * than that; sehmelir_draw takes little.
+ * several threads at once. On the stack sehmelir_draw takes up to 336 KiB, and
+ * sehmelir_keep, sehmelir_read and sehmelir_replace up to 256 KiB, so a thread
+ * that calls them needs more than that.
  *
  * It is proved of each call that its reply and all lent memory afterwards are
  * what the rules give. The proof rests on memory being lent as said above.
@@ -101,6 +101,8 @@ struct sehmelir_reply {
  *                             number: the edges that there are
  *     0 SEHMELIR_DONE         the edges stand in `out`, four numbers each
  *                             number: the edges
+ *
+ * Takes up to 336 KiB of stack.
  */
 struct sehmelir_reply sehmelir_draw(const int32_t *path, size_t path_len,
                                     uint32_t grade, int32_t *out,

@@ -8,6 +8,7 @@ use number::sign::size;
 use plane::Point;
 use plane::Vector;
 use plane::rotation::rotated;
+use plane::vectors::cross;
 use plane::vectors::same;
 ghost use mathlib.Core.Path.{_≡_};
 ghost use Prim.Native.Nat.{_+_, _^_, _<_};
@@ -90,12 +91,14 @@ fn counted(at: usize, r: Turning, d: Vector) -> usize
     let mut dir = d;
     let mut n = at;
     let mut left: usize = 1535;
+    let mut z = cross(dir, r.toward);
     while 0 < left {
         let next = rotated(r.step, dir);
-        if stops(dir, next, r.toward) {
+        if stops(z, dir, next, r.toward) {
             return past_last(n, r, dir);
         }
         n = past(n, stays(r, dir, next, l));
+        z = cross(next, r.toward);
         dir = next;
         left -= 1;
     }
@@ -113,7 +116,7 @@ pub fn turns(out: &mut [i32], at: usize, r: Turning, d: Vector, p: Point) -> usi
         return written(out, at, r, d, p);
     }
     let next = rotated(r.step, d);
-    if stops(d, next, r.toward) {
+    if stops(cross(d, r.toward), d, next, r.toward) {
         return edge(out, at, p, r.to);
     }
     let q = point_at(r.centre, r.radius, next);

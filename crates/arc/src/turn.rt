@@ -12,26 +12,27 @@ ghost use Prim.Native.Nat.{_^_};
 ghost use lib.IntN.{_+ℤ_};
 ghost use Rattle.whole.specs.Sizes.{Size};
 ghost use Rattle.runs.specs.Runs.{Runs, Room, put};
-ghost use Rattle.plane.specs.Vectors.{Near};
+ghost use Rattle.plane.specs.Vectors.{Near, crossOf};
 ghost use Rattle.plane.specs.Directions.{UnitLong, scaledOf};
 ghost use Rattle.arc.specs.Edges.{edgeNumbers};
 ghost use Rattle.arc.specs.Arcs.{nearOf, stopsOf, turnsOf};
 ghost use Rattle.arc.specs.Bounds.{Centre, Radius, Turns};
 
-// Whether the direction d is near the end's direction e.
-fn near(d: Vector, e: Vector) -> bool
-    requires { ⌜ UnitLong d × UnitLong e ⌝ }
+// Whether the direction d is near the end's direction e, where z is their cross product.
+fn near(z: i64, d: Vector, e: Vector) -> bool
+    requires { ⌜ UnitLong d × UnitLong e × (z ≡ crossOf d e) ⌝ }
     ensures { λ r. ⌜ r ≡ nearOf d e ⌝ }
 {
-    0 <= cross(d, e) && 0 <= dot(d, e)
+    0 <= z && 0 <= dot(d, e)
 }
 
-// Whether an arc stops before it turns from d to next, where e is the end's direction.
-pub fn stops(d: Vector, next: Vector, e: Vector) -> bool
-    requires { ⌜ UnitLong d × UnitLong next × UnitLong e ⌝ }
+// Whether an arc stops before it turns from d to next, where e is the end's direction and z the cross product of d and e, which is known from
+// the turn before.
+pub fn stops(z: i64, d: Vector, next: Vector, e: Vector) -> bool
+    requires { ⌜ UnitLong d × UnitLong next × UnitLong e × (z ≡ crossOf d e) ⌝ }
     ensures { λ r. ⌜ r ≡ stopsOf d next e ⌝ }
 {
-    cross(next, e) <= 0 && near(d, e)
+    cross(next, e) <= 0 && near(z, d, e)
 }
 
 // A coordinate moved by an offset.
@@ -65,13 +66,15 @@ pub fn written(out: &mut [i32], at: usize, r: Turning, d: Vector, p: Point) -> u
     let mut cur = p;
     let mut n = at;
     let mut left: usize = 1536;
+    let mut z = cross(dir, r.toward);
     while 0 < left {
         let next = rotated(r.step, dir);
-        if stops(dir, next, r.toward) {
+        if stops(z, dir, next, r.toward) {
             return edge(out, n, cur, r.to);
         }
         let q = point_at(r.centre, r.radius, next);
         n = edge(out, n, cur, q);
+        z = cross(next, r.toward);
         dir = next;
         cur = q;
         left -= 1;

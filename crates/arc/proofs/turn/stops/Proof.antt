@@ -1,5 +1,6 @@
 -- `arc::turn::stops` meets its contract: directions are short, so the product is told exactly. Assumes nothing.
-use borrow.Author.Needs.{needs}
+use mathlib.Core.Path.{_∙_}
+use Rattle.plane.proofs.Products.{back}
 use Rattle.plane.proofs.Directions.{unit-short}
 use Rattle.arc.proofs.Limits.{told}
 use Rattle.arc.proofs.Cases.{stops-near, stops-not}
@@ -10,7 +11,7 @@ cross-requires : tie.Need-cross-requires
 cross-requires c κs = (unit-short (c .pre .1), unit-short (c .pre .2))
 
 near-requires : tie.Need-near-requires
-near-requires c κs = search needs
+near-requires c κs = let s = c .before .before in (s .pre .0, s .pre .2, back (s .fits .z) ∙ s .pre .3)
 
 returns : tie.Need-returns
 returns c = stops-near _ _ _ (told (c .before .before .cross .ok) (c .before .before .cross .ensures)) (c .near .ensures) (c .before .if1 .taken)

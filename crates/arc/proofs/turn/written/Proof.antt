@@ -1,34 +1,38 @@
 -- `arc::turn::written` meets its contract: whoever writes what is left from here has written all. The measure is the rotations left.
 -- Assumes nothing.
+use mathlib.Core.Path.{_≡_}
 use mathlib.Core.List.{_++_}
 use Prim.Native.Nat.{_-_}
 use native.Mathlib.Omega.{arith}
+use mir.Syntax.{w64}
+use mir.Val.{toZ}
 use Rattle.runs.specs.Runs.{put}
 use Rattle.runs.proofs.Laws.{room-first}
 use Rattle.runs.proofs.Onward.{Onward, onward-start, onward-step, onward-as, onward-done, onward-room}
 use Rattle.runs.proofs.Written.{written-length}
-use Rattle.plane.specs.Vectors.{Near}
+use Rattle.plane.specs.Vectors.{Near, crossOf}
 use Rattle.plane.specs.Directions.{UnitLong}
+use Rattle.plane.proofs.Directions.{unit-short}
 use Rattle.arc.specs.Edges.{edgeNumbers, edgeOf}
 use Rattle.arc.specs.Arcs.{turnsOf}
-use Rattle.arc.proofs.Limits.{radius-told, point-is, point-reach, next-unit}
+use Rattle.arc.proofs.Limits.{told, radius-told, point-is, point-reach, next-unit}
 use Rattle.arc.proofs.Cases.{turns-end, turns-stop, turns-go}
 use Rattle.arc.proofs.turn.written.Statement.{statement}
 use Rattle.arc.proofs.turn.written.Tie as tie
 
 abbrev Inv-loop : tie.InvT-loop
-Inv-loop out₀ at r dir₀ cur₀ n₀ left₀ out dir cur n left =
-    Onward put edgeNumbers out₀ n₀ (turnsOf left₀ r dir₀ cur₀) out n (turnsOf left r dir cur) × UnitLong dir × Near cur
+Inv-loop out₀ at r dir₀ cur₀ n₀ left₀ z₀ out dir cur n left z =
+    Onward put edgeNumbers out₀ n₀ (turnsOf left₀ r dir₀ cur₀) out n (turnsOf left r dir cur) × UnitLong dir × Near cur × (toZ w64 z ≡ crossOf dir (r .toward))
 
 abbrev μ-loop : tie.MeasureT-loop
-μ-loop out₀ at r dir₀ cur₀ n₀ left₀ out dir cur n left = left
+μ-loop out₀ at r dir₀ cur₀ n₀ left₀ z₀ out dir cur n left z = left
 
 -- the loop's place, and the call, from where the rotated direction is known
 abbrev loop : tie.After-rotated Inv-loop μ-loop → tie.At-loop Inv-loop μ-loop
 loop c = c .before .before
 
 abbrev start : tie.After-rotated Inv-loop μ-loop → tie.Start Inv-loop μ-loop
-start c = loop c .before
+start c = loop c .before .before
 
 next : (c : tie.After-rotated Inv-loop μ-loop) → UnitLong (c .rotated .result)
 next c = next-unit (start c .pre .0 .step) (loop c .loop .inv .1) (c .rotated .ensures)
@@ -59,17 +63,20 @@ reached c =
     let b = c .before .before .before .before in
     point-reach (start b .pre .0 .centre) (start b .pre .0 .radius) (next b) (c .point-at .ensures)
 
+cross-requires : tie.Need-cross-requires Inv-loop μ-loop
+cross-requires c κs = (unit-short (c .pre .1 .0 .0), unit-short (c .pre .0 .toward))
+
 loop-holds : tie.Need-loop-holds Inv-loop μ-loop
-loop-holds c = (onward-start, c .pre .1 .0 .0, c .pre .1 .0 .1)
+loop-holds c = (onward-start, c .before .pre .1 .0 .0, c .before .pre .1 .0 .1, told (c .cross .ok) (c .cross .ensures))
 
 rotated-requires : tie.Need-rotated-requires Inv-loop μ-loop
-rotated-requires c κs = (c .before .before .pre .0 .step, c .before .loop .inv .1)
+rotated-requires c κs = (c .before .before .before .pre .0 .step, c .before .loop .inv .1)
 
 stops-requires : tie.Need-stops-requires Inv-loop μ-loop
-stops-requires c κs = (c .before .before .loop .inv .1, next c, c .before .before .before .pre .0 .toward)
+stops-requires c κs = (loop c .loop .inv .1, next c, start c .pre .0 .toward, loop c .loop .inv .3)
 
 edge-requires : tie.Need-edge-requires Inv-loop μ-loop
-edge-requires c κs = ((c .before .before .before .before .before .loop .inv .2, c .before .before .before .before .before .before .pre .0 .to), onward-room (last (c .before)) (c .before .before .before .before .before .before .pre .1 .1))
+edge-requires c κs = ((c .before .before .before .before .before .loop .inv .2, c .before .before .before .before .before .before .before .pre .0 .to), onward-room (last (c .before)) (c .before .before .before .before .before .before .before .pre .1 .1))
 
 returns : tie.Need-returns Inv-loop μ-loop
 returns c = onward-done (last (c .before .before .before)) (c .before .edge .ensures)
@@ -78,24 +85,29 @@ same-length : tie.Need-same-length Inv-loop μ-loop
 same-length c = written-length (returns c)
 
 point-at-requires : tie.Need-point-at-requires Inv-loop μ-loop
-point-at-requires c κs = (c .before .before .before .before .before .before .pre .0 .centre, radius-told (c .before .before .before .before .before .before .pre .0 .radius), next (c .before .before .before))
+point-at-requires c κs = (c .before .before .before .before .before .before .before .pre .0 .centre, radius-told (c .before .before .before .before .before .before .before .pre .0 .radius), next (c .before .before .before))
 
 edge-requires-2 : tie.Need-edge-requires-2 Inv-loop μ-loop
-edge-requires-2 c κs = ((c .before .before .before .before .before .before .before .loop .inv .2, reached (c .before)), room-first _ _ (onward-room (on (c .before)) (c .before .before .before .before .before .before .before .before .pre .1 .1)))
+edge-requires-2 c κs = ((c .before .before .before .before .before .before .before .loop .inv .2, reached (c .before)), room-first _ _ (onward-room (on (c .before)) (c .before .before .before .before .before .before .before .before .before .pre .1 .1)))
+
+cross-requires-2 : tie.Need-cross-requires-2 Inv-loop μ-loop
+cross-requires-2 c κs =
+    let b = c .before .before .before .before .before .before .before in
+    (unit-short (next b), unit-short (start b .pre .0 .toward))
 
 sub-left : tie.Need-sub-left Inv-loop μ-loop
-sub-left c = omega (arith, c .before .before .before .before .before .before .before .before .loop-test .taken)
+sub-left c = omega (arith, c .before .before .before .before .before .before .before .before .before .loop-test .taken)
 
 loop-less : tie.Need-loop-less Inv-loop μ-loop
-loop-less c = omega (arith, c .before .before .before .before .before .before .before .before .loop-test .taken)
+loop-less c = omega (arith, c .before .before .before .before .before .before .before .before .before .loop-test .taken)
 
 loop-again : tie.Need-loop-again Inv-loop μ-loop
 loop-again c =
-    let p = c .before .before .before in
-    (onward-step (on p) (c .before .edge2 .ensures), next (p .before .before .before .before), reached p)
+    let p = c .before .before .before .before in
+    (onward-step (on p) (c .before .before .edge2 .ensures), next (p .before .before .before .before), reached p, told (c .cross2 .ok) (c .cross2 .ensures))
 
 edge-requires-3 : tie.Need-edge-requires-3 Inv-loop μ-loop
-edge-requires-3 c κs = ((c .before .before .loop .inv .2, c .before .before .before .pre .0 .to), onward-room (onward-as (turns-end _ _ _ _ (c .before .loop-test .left)) (c .before .before .loop .inv .0)) (c .before .before .before .pre .1 .1))
+edge-requires-3 c κs = ((c .before .before .loop .inv .2, c .before .before .before .before .pre .0 .to), onward-room (onward-as (turns-end _ _ _ _ (c .before .loop-test .left)) (c .before .before .loop .inv .0)) (c .before .before .before .before .pre .1 .1))
 
 returns-2 : tie.Need-returns-2 Inv-loop μ-loop
 returns-2 c = onward-done (onward-as (turns-end _ _ _ _ (c .before .before .before .loop-test .left)) (c .before .before .before .before .loop .inv .0)) (c .before .edge3 .ensures)
@@ -109,6 +121,7 @@ written-spec =
     (tie.spec
     Inv-loop
     μ-loop
+    cross-requires
     loop-holds
     rotated-requires
     stops-requires
@@ -117,6 +130,7 @@ written-spec =
     returns
     point-at-requires
     edge-requires-2
+    cross-requires-2
     sub-left
     loop-less
     loop-again
