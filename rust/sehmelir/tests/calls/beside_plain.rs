@@ -257,6 +257,25 @@ fn every_short_room() {
     }
 }
 
+/// Draw keeps up to 1,024, 8,192 or 81,920 numbers while it counts. Circles
+/// within circles have 32 numbers each at grade 1: here what is drawn before
+/// the last of them comes to some circles less than draw keeps, to just as
+/// many numbers, and to more.
+#[test]
+fn as_much_as_draw_keeps_and_more() {
+    for kept in [1_024, 8_192, 81_920] {
+        let full = kept / 32 + 1;
+        for count in full - 2..=full + 2 {
+            let circle = |place: usize| [0, 0, 20 * (count - place) as i32];
+            let path: Path = (0..count).map(circle).collect();
+            let numbers = path.as_flattened();
+            for (length, reply) in [(32 * count, 0), (32 * count - 1, 5), (32 * count + 3, 0)] {
+                assert_eq!(draw(numbers, 1, length).reply, reply);
+            }
+        }
+    }
+}
+
 /// As many vertices as there may be, and the finest grade.
 #[test]
 fn long_paths() {
