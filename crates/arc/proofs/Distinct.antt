@@ -86,16 +86,16 @@ placed-apart c a b r h = go (sameNumber (c +ℤ mulDivOf a (pos r) (2 ^ 30)) (c 
     go true e = absurd (differs a b r h (add-cancel c (mulDivOf a (pos r) (2 ^ 30)) (mulDivOf b (pos r) (2 ^ 30)) (same-is _ _ e)))
     go false e = refl
 
-and-false : (x : Bool) → (x && false) ≡ false
+pub and-false : (x : Bool) → (x && false) ≡ false
 and-false true = refl
 and-false false = refl
 
 module _ (c : Point) (d e : Vector) where
-  apart-x : (s : ℤ) (r : ℕ) → s ≡ pos r → 2 ^ 30 < natAbs (d .x -ℤ e .x) * r → samePoint (scaledOf c s d) (scaledOf c s e) ≡ false
+  pub apart-x : (s : ℤ) (r : ℕ) → s ≡ pos r → 2 ^ 30 < natAbs (d .x -ℤ e .x) * r → samePoint (scaledOf c s d) (scaledOf c s e) ≡ false
   unfolding samePoint scaledOf
   apart-x s r k h = rw k (ap (λ (t : Bool). t && sameNumber (c .y +ℤ mulDivOf (d .y) (pos r) (2 ^ 30)) (c .y +ℤ mulDivOf (e .y) (pos r) (2 ^ 30))) (placed-apart (c .x) (d .x) (e .x) r h))
 
-  apart-y : (s : ℤ) (r : ℕ) → s ≡ pos r → 2 ^ 30 < natAbs (d .y -ℤ e .y) * r → samePoint (scaledOf c s d) (scaledOf c s e) ≡ false
+  pub apart-y : (s : ℤ) (r : ℕ) → s ≡ pos r → 2 ^ 30 < natAbs (d .y -ℤ e .y) * r → samePoint (scaledOf c s d) (scaledOf c s e) ≡ false
   unfolding samePoint scaledOf
   apart-y s r k h =
       rw k

@@ -7,3 +7,7 @@ pub mod Cases
 pub mod Reach
 pub mod Mirrored
 pub mod Distinct
+pub mod Landed
+pub mod Leaping
+pub mod LeapTests
+pub mod LeapCounts

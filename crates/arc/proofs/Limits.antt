@@ -87,7 +87,7 @@ offset-is h k e = rw (radius-back k, radius-natural k, back (short-fits h)) at e
 pub offset-small : {d r s : ℤ} → Size (2 ^ 30) d → Radius r → s ≡ mulDivOf (bits d) (pos (natAbs (bits r))) (2 ^ 30) → Size (2 ^ 28) s
 offset-small {d} {r} h k e = rw (offset-is h k e) (offset-size d r h k)
 
-moved-back : (c d r : ℤ) {s a : ℤ} → Size (2 ^ 28) c → Size (2 ^ 30) d → Radius r → s ≡ mulDivOf (bits d) (pos (natAbs (bits r))) (2 ^ 30) → a ≡ bits c +ℤ bits s
+pub moved-back : (c d r : ℤ) {s a : ℤ} → Size (2 ^ 28) c → Size (2 ^ 30) d → Radius r → s ≡ mulDivOf (bits d) (pos (natAbs (bits r))) (2 ^ 30) → a ≡ bits c +ℤ bits s
     → bits a ≡ c +ℤ mulDivOf d r (2 ^ 30)
 moved-back c d r h k l e f = rw (offset-is k l e) at (sum-back h (offset-small k l e) f)
 

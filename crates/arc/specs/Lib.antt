@@ -3,3 +3,5 @@ pub mod Edges
 pub mod Arcs
 pub mod Bounds
 pub mod Counts
+pub mod Landings
+pub mod Leaps

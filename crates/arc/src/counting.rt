@@ -1,6 +1,12 @@
 // An arc's turning where its edges are only counted: a direction that moves far enough moves its point, so the points are seldom needed.
 use crate::Turning;
 use crate::edges::edge;
+use crate::landing::hits;
+use crate::landing::misses;
+use crate::leaps::ends;
+use crate::leaps::leapt;
+use crate::leaps::long;
+use crate::leaps::moves;
 use crate::turn::point_at;
 use crate::turn::stops;
 use crate::turn::written;
@@ -81,8 +87,8 @@ fn past_last(at: usize, r: Turning, d: Vector) -> usize
     past(at, same(point_at(r.centre, r.radius, d), r.to))
 }
 
-// The position past an arc that goes on from the point in the direction d, with 1,535 rotations left.
-fn counted(at: usize, r: Turning, d: Vector) -> usize
+// The position past an arc that goes on from the point in the direction d, with 1,535 rotations left: rotation after rotation.
+fn counted_each(at: usize, r: Turning, d: Vector) -> usize
     requires { ⌜ Turns r × UnitLong d ⌝ }
     requires { ⌜ Room edgeNumbers at (turnsOf 1535 r d (placeOf r d)) ⌝ }
     ensures { λ n. ⌜ n ≡ at + length (spread edgeNumbers (turnsOf 1535 r d (placeOf r d))) ⌝ }
@@ -103,6 +109,28 @@ fn counted(at: usize, r: Turning, d: Vector) -> usize
         left -= 1;
     }
     past_last(n, r, dir)
+}
+
+// The same by leaps, where they tell how many rotations there are and whether the last point is the end.
+fn counted(at: usize, r: Turning, d: Vector) -> usize
+    requires { ⌜ Turns r × UnitLong d ⌝ }
+    requires { ⌜ Room edgeNumbers at (turnsOf 1535 r d (placeOf r d)) ⌝ }
+    ensures { λ n. ⌜ n ≡ at + length (spread edgeNumbers (turnsOf 1535 r d (placeOf r d))) ⌝ }
+{
+    if moves(r) {
+        let s = leapt(r, d);
+        if ends(r.step, r.toward, s.direction, s.off) {
+            if long(s.direction, s.off) {
+                if misses(r, s.direction, s.off) {
+                    return at + 4 * s.turns + 4;
+                }
+                if hits(r, s.direction, s.off) {
+                    return at + 4 * s.turns;
+                }
+            }
+        }
+    }
+    counted_each(at, r, d)
 }
 
 // From the point p in the direction d: the edges to the inner points, at most 1,536 of them, and to the end; past the room they are counted.

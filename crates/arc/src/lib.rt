@@ -7,6 +7,8 @@ pub mod circle;
 pub mod counting;
 pub mod edges;
 pub mod kinds;
+pub mod landing;
+pub mod leaps;
 pub mod turn;
 
 // An edge, from a to b.

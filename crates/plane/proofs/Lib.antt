@@ -4,3 +4,5 @@ pub mod Products
 pub mod Directions
 pub mod Turns
 pub mod Shifts
+pub mod Norms
+pub mod Leeway

@@ -1,3 +1,4 @@
 -- Document 01, "Numbers underneath", for points and vectors: what the contracts cite.
 pub mod Vectors
 pub mod Directions
+pub mod Within

@@ -276,6 +276,19 @@ fn as_much_as_draw_keeps_and_more() {
     }
 }
 
+/// What finds no room is only counted, at fine grades by leaps over many
+/// rotations: that comes to what is drawn.
+#[test]
+fn counts_by_leaps() {
+    let mut maker = Maker::new(7);
+    for _ in 0..CASES {
+        let path = maker.path(4);
+        for grade in 5..=8 {
+            assert_eq!(keep(path.as_flattened(), grade, 0).reply, 5);
+        }
+    }
+}
+
 /// As many vertices as there may be, and the finest grade.
 #[test]
 fn long_paths() {

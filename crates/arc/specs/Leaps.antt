@@ -1,0 +1,66 @@
+-- Document 01, "Arcs", where an arc is counted by leaps over many rotations at once: the direction is then known but for how far off it is.
+use mathlib.Core.Path.{_≡_}
+use mathlib.Core.Bool.{Bool, true, false}
+use Prim.Native.Nat.{ℕ, zero, suc, _+_, _*_, _^_, _≤_}
+use lib.IntN.{ℤ, pos, negℤ, natAbs, _-ℤ_}
+use lib.Signed.{_≤ℤ_}
+use Rattle.plane.specs.Vectors.{samePoint, squareOf}
+use Rattle.plane.specs.Directions.{rotatedOf, UnitLong}
+use Rattle.plane.specs.Within.{Within}
+use Rattle.plane.specs.declared.Vector.{Vector}
+use Rattle.arc.specs.Arcs.{stopsOf}
+use Rattle.arc.specs.Counts.{placeOf}
+use Rattle.arc.specs.declared.Turning.{Turning}
+
+-- the direction d after n rotations by the step t
+unfoldable pub turnedOf : ℕ → Vector → Vector → Vector
+turnedOf zero t d = d
+turnedOf (suc n) t d = turnedOf n t (rotatedOf t d)
+
+-- towards e, an arc does not stop before any of the first n
+unfoldable pub Goes : ℕ → Vector → Vector → Vector → Type 0
+Goes zero t e d = Unit {0}
+Goes (suc n) t e d = (stopsOf d (rotatedOf t d) e ≡ false) × Goes n t e (rotatedOf t d)
+
+-- how far a rotation by t takes a direction at most
+unfoldable pub strideOf : Vector → ℕ
+strideOf t = natAbs (pos (2 ^ 30) -ℤ t .x) + natAbs (t .y) + 2
+
+-- a rotation by u is n rotations by t, but for a
+pub record Leaps (t : Vector) (n a : ℕ) (u : Vector) : Type 0 where
+  pub unit : UnitLong u
+  pub near : (v : Vector) → UnitLong v → Within a (turnedOf n t v) (rotatedOf u v)
+
+-- where d has come to after so many rotations, but for how far off that is, and the arc did not stop before them
+pub record Comes (t e d : Vector) (n a : ℕ) (v : Vector) : Type 0 where
+  pub unit : UnitLong v
+  pub near : Within a (turnedOf n t d) v
+  pub goes : Goes n t e d
+  pub turns : n ≤ 1534
+  pub off : a ≤ 9 * n
+
+-- ---- tests, which tell something where they pass
+
+-- z is n or more; it is -n or less
+pub record Ahead (z : ℤ) (n : ℕ) (x : Bool) : Type 0 where
+  pub ahead : x ≡ true → pos n ≤ℤ z
+
+pub record Behind (z : ℤ) (n : ℕ) (x : Bool) : Type 0 where
+  pub behind : x ≡ true → z ≤ℤ negℤ (pos n)
+
+-- no two directions that near to d stop an arc towards e
+pub record Clears (d e : Vector) (reach : ℕ) (x : Bool) : Type 0 where
+  pub clears : x ≡ true → (v n : Vector) → Within reach v d → Within reach n d → stopsOf v n e ≡ false
+
+-- an arc stops at every direction that near to d
+pub record Ends (t e d : Vector) (off : ℕ) (x : Bool) : Type 0 where
+  pub ends : x ≡ true → (v : Vector) → Within off v d → stopsOf v (rotatedOf t v) e ≡ true
+
+-- every direction that near to d is seven eighths as long as a unit
+pub record Long (d : Vector) (off : ℕ) (x : Bool) : Type 0 where
+  pub long : x ≡ true → (v : Vector) → Within off v d → 7 * 2 ^ 27 * (7 * 2 ^ 27) ≤ squareOf v
+
+-- steps are fine, and yet a rotation of a direction that long moves its point
+pub record Moves (r : Turning) (x : Bool) : Type 0 where
+  pub fine : x ≡ true → strideOf (r .step) ≤ 2 ^ 27
+  pub moves : x ≡ true → (v : Vector) → UnitLong v → 7 * 2 ^ 27 * (7 * 2 ^ 27) ≤ squareOf v → samePoint (placeOf r v) (placeOf r (rotatedOf (r .step) v)) ≡ false
