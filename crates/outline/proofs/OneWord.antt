@@ -1,18 +1,21 @@
 -- One word: four bytes in a row, read where they stand, and the number that it is the word of. Assumes nothing.
 use mathlib.Core.Path.{_≡_, refl, sym, ap, _∙_}
-use mathlib.Core.Bool.{true, false}
 use mathlib.Core.List.{List, [], _∷_}
 use Prim.Native.Nat.{ℕ, zero, suc, _+_, _-_, _*_, _/_, _%_, _^_, _≤_, _<_}
 use native.Mathlib.Nat.{zero-add}
 use native.Mathlib.Numerals.{add-one, add-two, add-three}
 use native.Mathlib.Omega.{arith}
-use borrow.Author.Tests.{lt-ltb, le-ltb, ltb-true}
-use lib.IntN.{ℤ, pos, negsuc, natAbs, _-ℤ_}
-use lib.Signed.{ltZ}
+use borrow.Author.Tests.{lt-ltb, le-ltb}
+use lib.Dec.{T}
+use lib.IntN.{ℤ, pos, negsuc, natAbs, _+ℤ_, _-ℤ_}
+use lib.Signed.{nonNeg}
 use lib.ListN.{length, getD}
-use mir.Syntax.{w8, w32}
+use mir.Syntax.{w8, w32, w64}
 use mir.Val.{Fits, SFits, toZ, ofZ}
 use mir.Facts.{toZ-ofZ, toZ-pos}
+use Rattle.whole.specs.Sizes.{Size}
+use Rattle.whole.proofs.Signed.{up, down, add-balance}
+use Rattle.whole.proofs.Sizes.{size-add, size-fits}
 use Rattle.runs.specs.Runs.{spread, over, Runs, Room, agree}
 use Rattle.runs.proofs.Agreed.{agree-same}
 use Rattle.outline.specs.Words.{wordOf, numberOf, fourBytes}
@@ -69,17 +72,18 @@ word-here (a ∷ b ∷ c ∷ d ∷ s) (suc i) h =
     let e₃ : 4 * suc i + 3 ≡ suc (suc (suc (suc (4 * i + 3)))) = omega arith in
     rw (e₁, e₂, e₃, e₀) (word-here s i (omega arith))
 
--- ---- the word of a number, from its size
+-- ---- the word of a number, from 2 ^ 32 more
 
-pub word-below : (z : ℤ) {m : ℕ} → m ≡ natAbs z → natAbs z ≤ 2 ^ 31 → ltZ z (pos 0) ≡ true → (0 < m) × (2 ^ 32 - m ≡ wordOf z)
-unfolding wordOf
-word-below (pos n) e h t = absurd (omega (arith, ltb-true n 0 t))
-word-below (negsuc n) e h t = (omega arith, omega arith)
+pub raised-fits : {z : ℤ} → Size (2 ^ 31) z → SFits w64 (z +ℤ pos (2 ^ 32))
+raised-fits h = size-fits (2 ^ 31 + 2 ^ 32) w64 _ (size-add (2 ^ 31) (2 ^ 32) _ (pos (2 ^ 32)) h (record { size = omega arith })) tt
 
-pub word-above : (z : ℤ) {m : ℕ} → m ≡ natAbs z → natAbs z ≤ 2 ^ 31 → ltZ z (pos 0) ≡ false → m ≡ wordOf z
+-- w is that
+pub raised-word : (z w : ℤ) → w ≡ z +ℤ pos (2 ^ 32) → natAbs z ≤ 2 ^ 31 → T (nonNeg w) × (natAbs w < 2 ^ 64) × (natAbs w % 2 ^ 32 ≡ wordOf z)
 unfolding wordOf
-word-above (pos n) e h t = omega arith
-word-above (negsuc n) e h t = absurd (let z : _≡_ {A = ℕ} 0 1 = cc in omega arith)
+raised-word (pos n) (pos k) e h = let b = add-balance (pos n) (pos (2 ^ 32)) in (tt, omega (arith, b, ap up e, ap down e), omega (arith, b, ap up e, ap down e))
+raised-word (pos n) (negsuc k) e h = absurd (omega (arith, add-balance (pos n) (pos (2 ^ 32)), ap up e, ap down e))
+raised-word (negsuc n) (pos k) e h = let b = add-balance (negsuc n) (pos (2 ^ 32)) in (tt, omega (arith, b, ap up e, ap down e), omega (arith, b, ap up e, ap down e))
+raised-word (negsuc n) (negsuc k) e h = absurd (omega (arith, add-balance (negsuc n) (pos (2 ^ 32)), ap up e, ap down e))
 
 -- ---- the number of a word
 

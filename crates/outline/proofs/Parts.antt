@@ -1,7 +1,7 @@
 -- An outline's words part by part: numbers, a table entry by entry, bodies edge by edge. Assumes nothing.
 use mathlib.Core.Path.{_≡_, refl, sym, ap, _∙_}
 use mathlib.Core.List.{List, [], _∷_, _++_}
-use Prim.Native.Nat.{ℕ, _+_, _*_, _^_, _≤_, _<_}
+use Prim.Native.Nat.{ℕ, suc, _+_, _*_, _^_, _≤_, _<_}
 use native.Mathlib.Omega.{arith}
 use native.Mathlib.Numerals.{add-one}
 use lib.IntN.{ℤ, pos}
@@ -12,8 +12,9 @@ use mir.Val.{SFits, toZ, ofZ}
 use mir.Facts.{toZ-ofZ}
 use Rattle.whole.specs.Sizes.{Size}
 use Rattle.whole.proofs.Sizes.{size-fits}
-use Rattle.runs.specs.Runs.{spread, Runs, Room}
+use Rattle.runs.specs.Runs.{spread, Runs, Room, agree}
 use Rattle.runs.proofs.Laws.{spread-append, runs-as, runs-then}
+use Rattle.runs.proofs.Onward.{Onward, onward-step}
 use Rattle.plane.proofs.Products.{bits, back, size-back}
 use Rattle.plane.specs.declared.Vector.{Vector}
 use Rattle.arc.specs.Edges.{edgeNumbers}
@@ -41,6 +42,11 @@ unfolding wordsOf
 words-append [] ys = refl
 words-append (x ∷ xs) ys = ap (λ r. wordOf x ∷ r) (words-append xs ys)
 
+pub words-length : (xs : List ℤ) → length (wordsOf xs) ≡ length xs
+unfolding wordsOf
+words-length [] = refl
+words-length (x ∷ xs) = ap suc (words-length xs)
+
 -- one number more, where w is its word; and no more
 pub words-step : (l : List ℤ) (j : ℕ) {w : ℕ} → j < length l → w ≡ wordOf (getD l j (pos 0)) → wordsOf (drop j l) ≡ (w ∷ []) ++ wordsOf (drop (j + 1) l)
 unfolding wordsOf
@@ -55,6 +61,13 @@ pub first-step : (l : List ℤ) (n j : ℕ) {w : ℕ} → j < n → n ≤ length
     → wordsOf (drop j (take n l)) ≡ (w ∷ []) ++ wordsOf (drop (j + 1) (take n l))
 first-step l n j h k s e = words-step (take n l) j (omega (arith, length-take-le n l k)) (e ∙ ap wordOf (toZ-ofZ s ∙ sym (getD-take n l j (pos 0) h)))
 
+-- a word more of a comparison that has agreed so far, k bytes on
+pub onward-word : (s : List ℕ) {at : ℕ} {all rest : List ℕ} (k j : ℕ) {w : ℕ} → Onward (agree s) fourBytes at at all (k + 4 * j) (k + 4 * j) ((w ∷ []) ++ rest)
+    → Runs (agree s) fourBytes (k + 4 * j) (k + 4 * j) (w ∷ []) (k + 4 * j + 4) (k + 4 * j + 4) → Onward (agree s) fourBytes at at all (k + 4 * (j + 1)) (k + 4 * (j + 1)) rest
+onward-word s k j h p =
+    let e : k + 4 * (j + 1) ≡ k + 4 * j + 4 = omega arith in
+    rw e (onward-step h p)
+
 pub first-end : (l : List ℤ) (n j : ℕ) → n ≤ j → wordsOf (drop j (take n l)) ≡ []
 first-end l n j h = words-end (take n l) j (omega (arith, length-take n l))
 
@@ -62,6 +75,10 @@ first-end l n j h = words-end (take n l) j (omega (arith, length-take n l))
 pub four-each : (ws : List ℕ) → length (spread fourBytes ws) ≡ 4 * length ws
 unfolding bytesOf
 four-each ws = bytes-length ws
+
+-- so many bytes are due for the first n numbers
+pub words-room : (l : List ℤ) (n : ℕ) {at : ℕ} → n ≤ length l → Room fourBytes at (wordsOf (take n l)) → at + 4 * n < 2 ^ 64
+words-room l n h r = omega (arith, r .fits, four-each (wordsOf (take n l)), words-length (take n l), length-take-le n l h)
 
 -- ---- the header and an entry, word by word
 

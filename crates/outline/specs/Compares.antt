@@ -1,18 +1,24 @@
 -- What the functions that compare a store with the outline of a path promise: how far its table agrees, and how far its bodies do.
 use mathlib.Core.Path.{_≡_}
 use mathlib.Core.List.{List, [], _∷_}
-use Prim.Native.Nat.{ℕ, _+_}
-use lib.ListN.{length}
+use Prim.Native.Nat.{ℕ, _+_, _*_, _≤_}
+use lib.IntN.{ℤ}
+use lib.ListN.{length, take, drop}
 use Rattle.runs.specs.Runs.{Runs, agree}
 use Rattle.plane.specs.declared.Vector.{Vector}
 use Rattle.variable_stroke.specs.Chains.{emittedOf, nextOf}
 use Rattle.variable_stroke.specs.Paths.{bodiesOf, edgesOf}
 use Rattle.variable_stroke.specs.declared.Vertex.{Vertex}
 use Rattle.outline.specs.Layout.{headerBytes, frontBytes}
-use Rattle.outline.specs.Words.{fourBytes, entryOf, tableOf, bodyWords}
+use Rattle.outline.specs.Words.{wordsOf, fourBytes, entryOf, tableOf, bodyWords}
 use Rattle.outline.specs.Fills.{closeOf}
 use Rattle.outline.specs.declared.compare.Comparing.{Comparing}
 use Rattle.outline.specs.declared.compare.Compared.{Compared}
+
+-- the first j of n numbers stand as words from a byte on: whoever compares the rest from there on has compared them all
+pub record Alike (s : List ℕ) (l : List ℤ) (n at j : ℕ) : Type 0 where
+  pub most : j ≤ n
+  pub rest : (ok end : ℕ) → Runs (agree s) fourBytes (at + 4 * j) (at + 4 * j) (wordsOf (drop j (take n l))) ok end → Runs (agree s) fourBytes at at (wordsOf (take n l)) ok end
 
 -- a step to the vertex v: its entry and its body
 pub record StepMeets (t : Vector) (s : List ℕ) (c : Comparing) (v : Vertex) (d : Comparing) : Type 0 where

@@ -5,6 +5,7 @@ use crate::layout::LEAST;
 use crate::words::bits;
 use crate::words::same_word;
 use crate::words::wide_bits;
+use crate::words::word_from;
 use plane::Vector;
 use plane::direction::step;
 use variable_stroke::Vertex;
@@ -12,7 +13,7 @@ use variable_stroke::Walk;
 use variable_stroke::paths::vertex;
 ghost use mathlib.Core.Path.{_≡_};
 ghost use Prim.Native.Nat.{_+_, _*_, _^_, _≤_, _<_};
-ghost use lib.ListN.{length, take};
+ghost use lib.ListN.{length, take, drop};
 ghost use Rattle.runs.specs.Runs.{Runs, agree};
 ghost use Rattle.plane.specs.Directions.{UnitLong};
 ghost use Rattle.variable_stroke.specs.Bounds.{Inside, AroundWalk};
@@ -20,7 +21,7 @@ ghost use Rattle.variable_stroke.specs.Paths.{pathOf};
 ghost use Rattle.outline.specs.Layout.{entryBytes};
 ghost use Rattle.outline.specs.Words.{wordsOf, fourBytes, entryOf};
 ghost use Rattle.outline.specs.Theorems.{Within};
-ghost use Rattle.outline.specs.Compares.{StepMeets, EndMeets, Meets};
+ghost use Rattle.outline.specs.Compares.{Alike, StepMeets, EndMeets, Meets};
 
 // Where a comparison stands: the walk, how far the table agrees and where its next entry lies, how far the bodies agree and where they go on.
 pub struct Comparing {
@@ -38,13 +39,13 @@ pub struct Compared {
     pub end: usize,
 }
 
-// The first n numbers as words.
-pub fn same_numbers(from: &[i32], n: usize, s: &[u8], ok: usize, at: usize) -> usize
-    requires { ⌜ n ≤ length (now from) ⌝ }
+// The first n numbers but for as many as are left out, as words, one by one.
+fn same_rest(from: &[i32], n: usize, left: usize, s: &[u8], ok: usize, at: usize) -> usize
+    requires { ⌜ (left ≤ n) × (n ≤ length (now from)) ⌝ }
     requires { ⌜ at + 4 * n < 2 ^ 64 ⌝ }
-    ensures { λ r. ⌜ Runs (agree (now (s .entry))) fourBytes ok at (wordsOf (take n (now (from .entry)))) r (at + 4 * n) ⌝ }
+    ensures { λ r. ⌜ Runs (agree (now (s .entry))) fourBytes ok (at + 4 * left) (wordsOf (drop left (take n (now (from .entry))))) r (at + 4 * n) ⌝ }
 {
-    let mut j: usize = 0;
+    let mut j = left;
     let mut good = ok;
     while j < n {
         let z = from[j];
@@ -52,6 +53,39 @@ pub fn same_numbers(from: &[i32], n: usize, s: &[u8], ok: usize, at: usize) -> u
         j += 1;
     }
     good
+}
+
+// How many of the first n numbers, from the first on, stand as words in a store that is long enough for all.
+fn alike(from: &[i32], n: usize, s: &[u8], at: usize) -> usize
+    requires { ⌜ n ≤ length (now from) ⌝ }
+    requires { ⌜ at + 4 * n ≤ length (now s) ⌝ }
+    ensures { λ j. ⌜ Alike (now (s .entry)) (now (from .entry)) n at j ⌝ }
+{
+    let mut j: usize = 0;
+    while j < n {
+        let z = from[j];
+        if word_from(s, at + 4 * j) != bits(z) {
+            return j;
+        }
+        j += 1;
+    }
+    j
+}
+
+// The first n numbers as words: where all before them agrees, those that do in one go.
+pub fn same_numbers(from: &[i32], n: usize, s: &[u8], ok: usize, at: usize) -> usize
+    requires { ⌜ n ≤ length (now from) ⌝ }
+    requires { ⌜ at + 4 * n < 2 ^ 64 ⌝ }
+    ensures { λ r. ⌜ Runs (agree (now (s .entry))) fourBytes ok at (wordsOf (take n (now (from .entry)))) r (at + 4 * n) ⌝ }
+{
+    if ok != at {
+        return same_rest(from, n, 0, s, ok, at);
+    }
+    if s.len() < at + 4 * n {
+        return same_rest(from, n, 0, s, ok, at);
+    }
+    let j = alike(from, n, s, at);
+    same_rest(from, n, j, s, at + 4 * j, at)
 }
 
 // An entry of the table.

@@ -5,6 +5,7 @@ use crate::layout::HEADER;
 use crate::layout::LEAST;
 use crate::layout::STROKE_KIND;
 use crate::words::bits;
+use crate::words::place_word;
 use crate::words::put_word;
 use crate::words::wide_bits;
 use plane::Vector;
@@ -34,8 +35,8 @@ pub struct Filling {
     pub bodies: usize,
 }
 
-// The first n numbers as words.
-fn put_numbers(from: &[i32], n: usize, s: &mut [u8], at: usize) -> usize
+// The first n numbers as words, as far as the room goes.
+fn put_some(from: &[i32], n: usize, s: &mut [u8], at: usize) -> usize
     requires { ⌜ n ≤ length (now from) ⌝ }
     requires { ⌜ Room fourBytes at (wordsOf (take n (now from))) ⌝ }
     ensures { λ r. ⌜ Runs put fourBytes (now (s .entry)) at (wordsOf (take n (now (from .entry)))) (now (s .exit)) r ⌝ }
@@ -48,6 +49,34 @@ fn put_numbers(from: &[i32], n: usize, s: &mut [u8], at: usize) -> usize
         j += 1;
     }
     pos
+}
+
+// The first n numbers as words, all of them inside the room.
+fn place_numbers(from: &[i32], n: usize, s: &mut [u8], at: usize)
+    requires { ⌜ n ≤ length (now from) ⌝ }
+    requires { ⌜ at + 4 * n ≤ length (now s) ⌝ }
+    ensures { λ _. ⌜ Runs put fourBytes (now (s .entry)) at (wordsOf (take n (now (from .entry)))) (now (s .exit)) (at + 4 * n) ⌝ }
+{
+    let mut j: usize = 0;
+    while j < n {
+        let z = from[j];
+        place_word(s, at + 4 * j, bits(z));
+        j += 1;
+    }
+}
+
+// The first n numbers as words.
+fn put_numbers(from: &[i32], n: usize, s: &mut [u8], at: usize) -> usize
+    requires { ⌜ n ≤ length (now from) ⌝ }
+    requires { ⌜ Room fourBytes at (wordsOf (take n (now from))) ⌝ }
+    ensures { λ r. ⌜ Runs put fourBytes (now (s .entry)) at (wordsOf (take n (now (from .entry)))) (now (s .exit)) r ⌝ }
+{
+    let end = at + 4 * n;
+    if s.len() < end {
+        return put_some(from, n, s, at);
+    }
+    place_numbers(from, n, s, at);
+    end
 }
 
 // A vertex and the number of edges emitted on reaching it.

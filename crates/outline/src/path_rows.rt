@@ -1,7 +1,6 @@
 // The rows that draw and keep share: is this a path, at a grade, within the limits?
 use crate::Refusal;
 use variable_stroke::paths::first_outside;
-ghost use mathlib.Core.Path.{_≡_};
 ghost use Rattle.outline.specs.Checks.{PathSays};
 
 // What the rows of a path came to: how many vertices it has, or why it is refused.

@@ -1,5 +1,4 @@
 // Words of 32 bits in lent bytes, the least byte first: written, compared and read.
-use number::sign::size;
 ghost use mathlib.Core.Path.{_≡_};
 ghost use mathlib.Core.List.{[], _∷_};
 ghost use Prim.Native.Nat.{_+_, _*_, _^_, _≤_};
@@ -30,6 +29,17 @@ fn put_each(s: &mut [u8], at: usize, w: u32) -> usize
     at + 4
 }
 
+// One word, all of it inside the room.
+pub fn place_word(s: &mut [u8], at: usize, w: u32)
+    requires { ⌜ at + 4 ≤ length (now s) ⌝ }
+    ensures { λ _. ⌜ Runs put fourBytes (now (s .entry)) at (w ∷ []) (now (s .exit)) (at + 4) ⌝ }
+{
+    s[at] = (w % 256) as u8;
+    s[at + 1] = (w / 256 % 256) as u8;
+    s[at + 2] = (w / 65536 % 256) as u8;
+    s[at + 3] = (w / 16777216 % 256) as u8;
+}
+
 // One word. Bytes past the room are not written; the position goes on all the same.
 pub fn put_word(s: &mut [u8], at: usize, w: u32) -> usize
     requires { ⌜ Room fourBytes at (w ∷ []) ⌝ }
@@ -38,10 +48,7 @@ pub fn put_word(s: &mut [u8], at: usize, w: u32) -> usize
     if s.len() < at + 4 {
         return put_each(s, at, w);
     }
-    s[at] = (w % 256) as u8;
-    s[at + 1] = (w / 256 % 256) as u8;
-    s[at + 2] = (w / 65536 % 256) as u8;
-    s[at + 3] = (w / 16777216 % 256) as u8;
+    place_word(s, at, w);
     at + 4
 }
 
@@ -80,7 +87,7 @@ fn word(a: u8, b: u8, c: u8, d: u8) -> u32
 }
 
 // The word that begins at a byte.
-fn word_from(s: &[u8], at: usize) -> u32
+pub fn word_from(s: &[u8], at: usize) -> u32
     requires { ⌜ at + 4 ≤ length (now s) ⌝ }
     ensures { λ r. ⌜ r ≡ wordFrom (now (s .entry)) at ⌝ }
 {
@@ -118,11 +125,7 @@ pub fn wide_bits(z: i64) -> u32
     requires { ⌜ Size (2 ^ 31) z ⌝ }
     ensures { λ r. ⌜ r ≡ wordOf z ⌝ }
 {
-    let m = size(z);
-    if z < 0 {
-        return (0x1_0000_0000 - m) as u32;
-    }
-    m as u32
+    ((z + 0x1_0000_0000) as u64 % 0x1_0000_0000) as u32
 }
 
 // The word of a number of 32 bits.

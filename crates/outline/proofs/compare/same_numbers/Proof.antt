@@ -1,71 +1,55 @@
--- `outline::compare::same_numbers` meets its contract: what is left of the numbers is compared on, word by word. Assumes nothing.
-use Prim.Native.Nat.{_+_, _-_, _*_, _≤_}
-use borrow.Author.Needs.{needs}
+-- `outline::compare::same_numbers` meets its contract: those that stand there agree, and the rest is compared on. Assumes nothing.
+use mathlib.Core.Path.{_≡_}
 use native.Mathlib.Nat.{add-zero}
 use native.Mathlib.Omega.{arith}
-use lib.ListN.{take, drop}
-use Rattle.runs.proofs.Laws.{runs-none, runs-to}
-use Rattle.runs.proofs.Onward.{Onward, onward-start, onward-step, onward-as, onward-done}
-use Rattle.runs.specs.Runs.{agree}
-use Rattle.outline.specs.Words.{wordsOf, fourBytes}
-use Rattle.outline.proofs.OneWord.{word-room}
-use Rattle.outline.proofs.Parts.{first-step, first-end}
 use Rattle.outline.proofs.compare.same_numbers.Statement.{statement}
 use Rattle.outline.proofs.compare.same_numbers.Tie as tie
 
-abbrev Inv-loop : tie.InvT-loop
-Inv-loop from n s ok at j₀ good₀ j good = (j ≤ n) × Onward (agree s) fourBytes ok at (wordsOf (take n from)) good (at + 4 * j) (wordsOf (drop j (take n from)))
+same-rest-requires : tie.Need-same-rest-requires
+same-rest-requires c κs = ((omega arith, c .before .before .pre .0), c .before .before .pre .1)
 
-abbrev μ-loop : tie.MeasureT-loop
-μ-loop from n s ok at j₀ good₀ j good = n - j
+returns : tie.Need-returns
+returns c = rw (add-zero (c .before .before .before .args .at)) at (c .same-rest .ensures)
 
-loop-holds : tie.Need-loop-holds Inv-loop μ-loop
-loop-holds c = (omega arith, rw (add-zero (c .before .args .at)) onward-start)
+mul-if2 : tie.Need-mul-if2
+mul-if2 c = omega (arith, c .before .before .pre .1)
 
-mul-z : tie.Need-mul-z Inv-loop μ-loop
-mul-z c = omega arith
+add-if2 : tie.Need-add-if2
+add-if2 c = omega (arith, c .before .before .pre .1)
 
-shared-slice-copy-out-z : tie.Need-shared-slice-copy-out-z Inv-loop μ-loop
-shared-slice-copy-out-z c = omega arith
+same-rest-requires-2 : tie.Need-same-rest-requires-2
+same-rest-requires-2 c κs = ((omega arith, c .before .before .before .pre .0), c .before .before .before .pre .1)
 
-mul-same-word : tie.Need-mul-same-word Inv-loop μ-loop
-mul-same-word c = omega arith
+returns-2 : tie.Need-returns-2
+returns-2 c = rw (add-zero (c .before .before .before .before .args .at)) at (c .same-rest2 .ensures)
 
-add-same-word : tie.Need-add-same-word Inv-loop μ-loop
-add-same-word c = omega arith
+alike-requires : tie.Need-alike-requires
+alike-requires c κs = (c .before .before .before .pre .0, omega (arith, c .if2 .left))
 
-bits-requires : tie.Need-bits-requires Inv-loop μ-loop
-bits-requires c κs = tt
+mul-same-rest : tie.Need-mul-same-rest
+mul-same-rest c = omega (arith, c .before .before .before .before .pre .1, c .alike .ensures .most)
 
-same-word-requires : tie.Need-same-word-requires Inv-loop μ-loop
-same-word-requires c κs = word-room _ (omega arith)
+add-same-rest : tie.Need-add-same-rest
+add-same-rest c = omega (arith, c .before .before .before .before .pre .1, c .alike .ensures .most)
 
-add-j : tie.Need-add-j Inv-loop μ-loop
-add-j c = omega arith
+same-rest-requires-3 : tie.Need-same-rest-requires-3
+same-rest-requires-3 c κs = ((c .alike .ensures .most, c .before .before .before .before .pre .0), c .before .before .before .before .pre .1)
 
-loop-less : tie.Need-loop-less Inv-loop μ-loop
-loop-less c = omega arith
-
-loop-again : tie.Need-loop-again Inv-loop μ-loop
-loop-again c = (omega arith, onward-step (onward-as (first-step (c .before .before .before .before .before .before .args .from .now) (c .before .before .before .before .before .before .args .n) (c .before .before .before .before .loop .j) (c .before .before .before .loop-test .taken) (c .before .before .before .before .before .before .pre .0) (record { sfits = search needs }) (c .before .bits .ensures)) (c .before .before .before .before .loop .inv .1)) (runs-to (omega arith) (c .same-word .ensures)))
-
-returns : tie.Need-returns Inv-loop μ-loop
-returns c = onward-done (onward-as (first-end (c .before .before .before .args .from .now) (c .before .before .before .args .n) (c .before .loop .j) (c .loop-test .left)) (c .before .loop .inv .1)) (runs-to (omega arith) runs-none)
+returns-3 : tie.Need-returns-3
+returns-3 c = let e : c .before .before .before .before .before .args .ok ≡ c .before .before .before .before .before .args .at = omega arith in rw e (c .before .alike .ensures .rest _ _ (c .same-rest3 .ensures))
 
 pub same-numbers-spec : {M : Type 1} → statement M
 same-numbers-spec =
     tie.close
     (tie.spec
-    Inv-loop
-    μ-loop
-    loop-holds
-    mul-z
-    shared-slice-copy-out-z
-    mul-same-word
-    add-same-word
-    bits-requires
-    same-word-requires
-    add-j
-    loop-less
-    loop-again
-    returns)
+    same-rest-requires
+    returns
+    mul-if2
+    add-if2
+    same-rest-requires-2
+    returns-2
+    alike-requires
+    mul-same-rest
+    add-same-rest
+    same-rest-requires-3
+    returns-3)

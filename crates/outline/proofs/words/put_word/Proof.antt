@@ -1,9 +1,7 @@
--- `outline::words::put_word` meets its contract: the four bytes are put in their order. Assumes nothing.
+-- `outline::words::put_word` meets its contract: the word is placed, or put byte by byte where the room may end within it. Assumes nothing.
 use borrow.Author.Needs.{needs}
 use native.Mathlib.Omega.{arith}
-use mathlib.Core.Path.{refl}
-use lib.ListN.{length-set}
-use Rattle.outline.proofs.OneWord.{room-word, word-run}
+use Rattle.outline.proofs.OneWord.{room-word}
 use Rattle.outline.proofs.words.put_word.Statement.{statement}
 use Rattle.outline.proofs.words.put_word.Tie as tie
 
@@ -19,38 +17,8 @@ same-length c = search needs
 returns : tie.Need-returns
 returns c = search needs
 
-cast-s : tie.Need-cast-s
-cast-s c = search needs
-
-slice-write-s : tie.Need-slice-write-s
-slice-write-s c = search needs
-
-cast-s-2 : tie.Need-cast-s-2
-cast-s-2 c = search needs
-
-add-s : tie.Need-add-s
-add-s c = search needs
-
-slice-write-s-2 : tie.Need-slice-write-s-2
-slice-write-s-2 c = simp length-set (omega (arith, c .if1 .left))
-
-cast-s-3 : tie.Need-cast-s-3
-cast-s-3 c = search needs
-
-add-s-2 : tie.Need-add-s-2
-add-s-2 c = search needs
-
-slice-write-s-3 : tie.Need-slice-write-s-3
-slice-write-s-3 c = simp length-set (omega (arith, c .if1 .left))
-
-cast-s-4 : tie.Need-cast-s-4
-cast-s-4 c = search needs
-
-add-s-3 : tie.Need-add-s-3
-add-s-3 c = search needs
-
-slice-write-s-4 : tie.Need-slice-write-s-4
-slice-write-s-4 c = simp length-set (omega (arith, c .if1 .left))
+place-word-requires : tie.Need-place-word-requires
+place-word-requires c κs = search needs
 
 add-result : tie.Need-add-result
 add-result c = search needs
@@ -59,7 +27,7 @@ same-length-2 : tie.Need-same-length-2
 same-length-2 c = search needs
 
 returns-2 : tie.Need-returns-2
-returns-2 c = word-run (c .before .before .args .w) refl refl refl refl
+returns-2 c = search needs
 
 pub put-word-spec : {M : Type 1} → statement M
 put-word-spec =
@@ -69,17 +37,7 @@ put-word-spec =
     put-each-requires
     same-length
     returns
-    cast-s
-    slice-write-s
-    cast-s-2
-    add-s
-    slice-write-s-2
-    cast-s-3
-    add-s-2
-    slice-write-s-3
-    cast-s-4
-    add-s-3
-    slice-write-s-4
+    place-word-requires
     add-result
     same-length-2
     returns-2)
