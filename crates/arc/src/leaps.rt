@@ -67,7 +67,8 @@ fn clear(d: Vector, e: Vector, reach: u64) -> bool
     behind(dot(d, e), least)
 }
 
-// Where an arc from d comes to by leaps of eight rotations, and then of one.
+// Where an arc from d comes to by leaps of eight rotations, and then of one. A rotation by `eight` is eight by the step but for 63 at most, and each
+// rotation of a direction that is off leaves it off by 3 more.
 pub fn leapt(r: Turning, d: Vector) -> Leap
     requires { ⌜ Turns r × UnitLong d × (strideOf (r .step) ≤ 2 ^ 27) ⌝ }
     ensures { λ s. ⌜ Comes (r .step) (r .toward) d (s .turns) (s .off) (s .direction) ⌝ }

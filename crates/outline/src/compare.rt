@@ -39,7 +39,7 @@ pub struct Compared {
     pub end: usize,
 }
 
-// The first n numbers but for as many as are left out, as words, one by one.
+// Of the first n numbers all but the first few, which are left out, as words, one by one.
 fn same_rest(from: &[i32], n: usize, left: usize, s: &[u8], ok: usize, at: usize) -> usize
     requires { ⌜ (left ≤ n) × (n ≤ length (now from)) ⌝ }
     requires { ⌜ at + 4 * n < 2 ^ 64 ⌝ }
