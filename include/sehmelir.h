@@ -46,7 +46,7 @@
  *   replaced outline that shrank (see sehmelir_replace).
  *
  * The calls allocate nothing, keep nothing between calls, and may run in
- * several threads at once. On the stack sehmelir_draw takes up to 336 KiB, and
+ * several threads at once. On the stack sehmelir_draw takes up to 528 KiB, and
  * sehmelir_keep, sehmelir_read and sehmelir_replace up to 256 KiB, so a thread
  * that calls them needs more than that.
  *
@@ -102,7 +102,7 @@ struct sehmelir_reply {
  *     0 SEHMELIR_DONE         the edges stand in `out`, four numbers each
  *                             number: the edges
  *
- * Takes up to 336 KiB of stack.
+ * Takes up to 528 KiB of stack.
  */
 struct sehmelir_reply sehmelir_draw(const int32_t *path, size_t path_len,
                                     uint32_t grade, int32_t *out,

@@ -10,7 +10,7 @@ use Rattle.plane.specs.Within.{Within}
 use Rattle.plane.proofs.Directions.{turned-unit, turned-no-longer}
 use Rattle.plane.specs.declared.Vector.{Vector}
 use Rattle.arc.specs.Arcs.{stopsOf}
-use Rattle.arc.specs.Leaps.{turnedOf, Goes, strideOf, Leaps, Comes, Clears}
+use Rattle.arc.specs.Leaps.{turnedOf, Goes, strideOf, Leaps, Comes, Leads, Clears}
 use Rattle.plane.proofs.Leeway.{within-same, within-more, within-then, turned-within, turned-twice, stride-within}
 
 -- ---- many rotations
@@ -97,15 +97,13 @@ pub comes-start : (t e d : Vector) → UnitLong d → Comes t e d 0 0 d
 unfolding turnedOf Goes
 comes-start t e d h = record { unit = h; near = within-same d; goes = tt; turns = omega arith; off = omega arith }
 
--- from where an arc has come to, wherever it began: on to where it comes then
-pub record Leads (t e : Vector) (n a : ℕ) (v : Vector) (m b : ℕ) (w : Vector) : Type 0 where
-  pub unit : UnitLong w
-  pub turns : m ≤ 1534
-  pub off : b ≤ 9 * m
-  pub comes : (d : Vector) → UnitLong d → Comes t e d n a v → Comes t e d m b w
+-- ---- where an arc leads
 
-pub leads-same : {t e d v : Vector} {n a : ℕ} → Comes t e d n a v → Leads t e n a v n a v
-leads-same h = record { unit = h .unit; turns = h .turns; off = h .off; comes = λ _ _ k. k }
+pub leads-same : {t e v : Vector} {n a : ℕ} → UnitLong v → n ≤ 1534 → a ≤ 9 * n → Leads t e n a v n a v
+leads-same h i j = record { unit = h; turns = i; off = j; comes = λ _ _ k. k }
+
+pub leads-then : {t e u v w : Vector} {n a m b k c : ℕ} → Leads t e n a u m b v → Leads t e m b v k c w → Leads t e n a u k c w
+leads-then h k = record { unit = k .unit; turns = k .turns; off = k .off; comes = λ d hd s. k .comes d hd (h .comes d hd s) }
 
 pub leads-on : (m b reach : ℕ) (t e u : Vector) {v w x : Vector} {n a k c : ℕ} {y : Bool} → Leads t e n a v k c w → Leaps t m b u → UnitLong t
     → Clears w e reach y → y ≡ true → c + m * strideOf t ≤ reach → x ≡ rotatedOf u w → k + m ≤ 1534 → b + 3 ≤ 9 * m → Leads t e n a v (k + m) (c + (b + 3)) x

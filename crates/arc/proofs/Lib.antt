@@ -10,4 +10,7 @@ pub mod Distinct
 pub mod Landed
 pub mod Leaping
 pub mod LeapTests
-pub mod LeapCounts
+pub mod Laid
+pub mod Bows
+pub mod ReadBack
+pub mod FoldByFold

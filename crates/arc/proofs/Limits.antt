@@ -51,6 +51,9 @@ centre-near h = record { x = record { size = omega (arith, h .x .size) }; y = re
 radius-size : {r : ℤ} → Radius r → Size (2 ^ 28) r
 radius-size h = record { size = h .high }
 
+pub radius-near : {r : ℤ} → Radius r → Size (2 ^ 29) r
+radius-near h = record { size = omega (arith, h .high) }
+
 pub radius-back : {r : ℤ} → Radius r → bits r ≡ r
 radius-back h = back (small-fits (radius-size h))
 

@@ -94,6 +94,16 @@ same-is (pos m) (negsuc n) e = absurd (true≢false (sym e))
 same-is (negsuc m) (pos n) e = absurd (true≢false (sym e))
 same-is (negsuc m) (negsuc n) e = ap negsuc (eqb-true m n e)
 
+both-true : (a b : Bool) → (a && b) ≡ true → (a ≡ true) × (b ≡ true)
+both-true true b e = (refl, e)
+both-true false b e = absurd (true≢false (sym e))
+
+pub same-point : (p q : Point) → samePoint p q ≡ true → p ≡ q
+unfolding samePoint
+same-point p q e =
+    let h = both-true _ _ e in
+    λ i. record { x = same-is (p .x) (q .x) (h .0) i; y = same-is (p .y) (q .y) (h .1) i }
+
 some-way : (a b : ℤ) → sameNumber a b ≡ false → 0 < natAbs (a -ℤ b)
 some-way a b e = go (natAbs (a -ℤ b)) refl
   where

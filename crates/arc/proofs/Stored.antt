@@ -57,10 +57,10 @@ unfolding spread edgeNumbers
 room-one e h = h .fits
 
 -- a coordinate as an i32, by its bits
-abbrev number : ℤ → ℤ
+abbrev pub number : ℤ → ℤ
 number r = toZ w32 (ofZ w32 r)
 
-narrowed : {r z : ℤ} → Size (2 ^ 29) z → r ≡ bits z → number r ≡ z
+pub narrowed : {r z : ℤ} → Size (2 ^ 29) z → r ≡ bits z → number r ≡ z
 narrowed {r} {z} h e =
     let f : r ≡ z = e ∙ back (near-fits h) in
     rw f (toZ-ofZ (size-fits (2 ^ 29) w32 _ h tt))

@@ -31,13 +31,21 @@ pub record Leaps (t : Vector) (n a : ℕ) (u : Vector) : Type 0 where
   pub unit : UnitLong u
   pub near : (v : Vector) → UnitLong v → Within a (turnedOf n t v) (rotatedOf u v)
 
--- where d has come to after so many rotations, but for how far off that is, and the arc did not stop before them
+-- where d has come to after so many rotations, but for how far off that is, and the arc did not stop before them. At most 1,534: d is the direction after
+-- the first rotation, which leaves 1,535, and the last edge needs one more test. At most 9 off a rotation: a leap of eight adds 66, a single one 3.
 pub record Comes (t e d : Vector) (n a : ℕ) (v : Vector) : Type 0 where
   pub unit : UnitLong v
   pub near : Within a (turnedOf n t d) v
   pub goes : Goes n t e d
   pub turns : n ≤ 1534
   pub off : a ≤ 9 * n
+
+-- from where an arc has come to, wherever it began: on to where it comes then
+pub record Leads (t e : Vector) (n a : ℕ) (v : Vector) (m b : ℕ) (w : Vector) : Type 0 where
+  pub unit : UnitLong w
+  pub turns : m ≤ 1534
+  pub off : b ≤ 9 * m
+  pub comes : (d : Vector) → UnitLong d → Comes t e d n a v → Comes t e d m b w
 
 -- ---- tests, which tell something where they pass
 
@@ -56,7 +64,8 @@ pub record Clears (d e : Vector) (reach : ℕ) (x : Bool) : Type 0 where
 pub record Ends (t e d : Vector) (off : ℕ) (x : Bool) : Type 0 where
   pub ends : x ≡ true → (v : Vector) → Within off v d → stopsOf v (rotatedOf t v) e ≡ true
 
--- every direction that near to d is seven eighths as long as a unit
+-- every direction that near to d is seven eighths as long as a unit: a rotation moves one that long by seven eighths of the step's y or more, but for
+-- rounding. No rotation lengthens a direction, so where the last is that long, all before it are
 pub record Long (d : Vector) (off : ℕ) (x : Bool) : Type 0 where
   pub long : x ≡ true → (v : Vector) → Within off v d → 7 * 2 ^ 27 * (7 * 2 ^ 27) ≤ squareOf v
 

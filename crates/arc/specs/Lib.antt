@@ -5,3 +5,4 @@ pub mod Bounds
 pub mod Counts
 pub mod Landings
 pub mod Leaps
+pub mod Folds

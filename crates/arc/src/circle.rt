@@ -1,22 +1,25 @@
 // An arc between two points at about one distance from its centre, and a circle, which is two of them.
+use crate::Pen;
 use crate::Turning;
 use crate::counting::turns;
+use crate::folding::fold;
 use crate::turn::moved;
 use plane::Point;
 use plane::Vector;
 ghost use mathlib.Core.Path.{_≡_};
-ghost use Rattle.runs.specs.Runs.{Runs, Room, put};
+ghost use Rattle.runs.specs.Runs.{Room};
 ghost use Rattle.plane.specs.Vectors.{fromTo};
 ghost use Rattle.plane.specs.Directions.{UnitLong, directionOf};
 ghost use Rattle.arc.specs.Edges.{edgeNumbers};
 ghost use Rattle.arc.specs.Arcs.{sweptOf, eastOf, westOf, circleOf};
 ghost use Rattle.arc.specs.Bounds.{Centre, Radius, About};
+ghost use Rattle.arc.specs.Folds.{Lays};
 
-// From p, in the direction d, to q, in the direction e, about c by steps of t, the inner points at the radius.
+// From p, in the direction d, to q, in the direction e, about c by steps of the pen, the inner points at the radius.
 fn swept(
     out: &mut [i32],
     at: usize,
-    t: Vector,
+    pen: Pen,
     c: Point,
     radius: i64,
     p: Point,
@@ -24,11 +27,12 @@ fn swept(
     q: Point,
     e: Vector,
 ) -> usize
-    requires { ⌜ UnitLong t × Centre c × Radius radius × About c p × About c q ⌝ }
+    requires { ⌜ UnitLong (pen .step) × Centre c × Radius radius × About c p × About c q ⌝ }
     requires { ⌜ UnitLong d × UnitLong e × (d ≡ directionOf (fromTo c p)) × (e ≡ directionOf (fromTo c q)) ⌝ }
-    requires { ⌜ Room edgeNumbers at (sweptOf t c radius p q) ⌝ }
-    ensures { λ n. ⌜ Runs put edgeNumbers (now (out .entry)) at (sweptOf t c radius p q) (now (out .exit)) n ⌝ }
+    requires { ⌜ Room edgeNumbers at (sweptOf (pen .step) c radius p q) ⌝ }
+    ensures { λ n. ⌜ Lays (pen .step) (pen .folds) (now (out .entry)) at (sweptOf (pen .step) c radius p q) (now (out .exit)) n ⌝ }
 {
+    let t = pen.step;
     let r = Turning {
         step: t,
         centre: c,
@@ -36,6 +40,9 @@ fn swept(
         to: q,
         toward: e,
     };
+    if pen.folds {
+        return fold(out, at, r, d, p);
+    }
     turns(out, at, r, d, p)
 }
 
@@ -62,10 +69,10 @@ fn west(c: Point, radius: i64) -> Point
 }
 
 // A circle, or nothing where the radius is 1 or less. Its arcs are alike: where the first is only counted, that counts the second.
-pub fn circle(out: &mut [i32], at: usize, t: Vector, c: Point, radius: i64) -> usize
-    requires { ⌜ UnitLong t × Centre c × Radius radius ⌝ }
-    requires { ⌜ Room edgeNumbers at (circleOf t c radius) ⌝ }
-    ensures { λ n. ⌜ Runs put edgeNumbers (now (out .entry)) at (circleOf t c radius) (now (out .exit)) n ⌝ }
+pub fn circle(out: &mut [i32], at: usize, pen: Pen, c: Point, radius: i64) -> usize
+    requires { ⌜ UnitLong (pen .step) × Centre c × Radius radius ⌝ }
+    requires { ⌜ Room edgeNumbers at (circleOf (pen .step) c radius) ⌝ }
+    ensures { λ n. ⌜ Lays (pen .step) (pen .folds) (now (out .entry)) at (circleOf (pen .step) c radius) (now (out .exit)) n ⌝ }
 {
     if radius <= 1 {
         return at;
@@ -80,9 +87,9 @@ pub fn circle(out: &mut [i32], at: usize, t: Vector, c: Point, radius: i64) -> u
         x: -0x4000_0000,
         y: 0,
     };
-    let n = swept(out, at, t, c, radius, e, eastward, w, westward);
-    if out.len() <= at {
+    let n = swept(out, at, pen, c, radius, e, eastward, w, westward);
+    if !pen.folds && out.len() <= at {
         return n + (n - at);
     }
-    swept(out, n, t, c, radius, w, westward, e, eastward)
+    swept(out, n, pen, c, radius, w, westward, e, eastward)
 }

@@ -29,6 +29,7 @@ ghost use Rattle.arc.specs.Edges.{edgeNumbers, edgeOf};
 ghost use Rattle.arc.specs.Arcs.{turnsOf};
 ghost use Rattle.arc.specs.Bounds.{Radius, Turns};
 ghost use Rattle.arc.specs.Counts.{placeOf, edgeSize, Far};
+ghost use Rattle.arc.specs.Folds.{BendsOn};
 
 // How far a component must move to move its point at the radius.
 fn least(radius: i64) -> u64
@@ -111,24 +112,36 @@ fn counted_each(at: usize, r: Turning, d: Vector) -> usize
     past_last(n, r, dir)
 }
 
-// The same by leaps, where they tell how many rotations there are and whether the last point is the end.
-fn counted(at: usize, r: Turning, d: Vector) -> usize
+// How many rotations an arc has, the one to the direction d and those that leaps count from there, where they tell that every edge has length; else 0.
+pub fn turned_on(r: Turning, d: Vector) -> usize
     requires { ⌜ Turns r × UnitLong d ⌝ }
-    requires { ⌜ Room edgeNumbers at (turnsOf 1535 r d (placeOf r d)) ⌝ }
-    ensures { λ n. ⌜ n ≡ at + length (spread edgeNumbers (turnsOf 1535 r d (placeOf r d))) ⌝ }
+    ensures { λ n. ⌜ BendsOn r d n ⌝ }
 {
     if moves(r) {
         let s = leapt(r, d);
         if ends(r.step, r.toward, s.direction, s.off) {
             if long(s.direction, s.off) {
                 if misses(r, s.direction, s.off) {
-                    return at + 4 * s.turns + 4;
+                    return s.turns + 1;
                 }
                 if hits(r, s.direction, s.off) {
-                    return at + 4 * s.turns;
+                    return s.turns;
                 }
             }
         }
+    }
+    0
+}
+
+// The position past an arc that goes on from the point in the direction d: by leaps, where they tell.
+fn counted(at: usize, r: Turning, d: Vector) -> usize
+    requires { ⌜ Turns r × UnitLong d ⌝ }
+    requires { ⌜ Room edgeNumbers at (turnsOf 1535 r d (placeOf r d)) ⌝ }
+    ensures { λ n. ⌜ n ≡ at + length (spread edgeNumbers (turnsOf 1535 r d (placeOf r d))) ⌝ }
+{
+    let n = turned_on(r, d);
+    if 0 < n {
+        return at + 4 * n;
     }
     counted_each(at, r, d)
 }

@@ -14,7 +14,7 @@ ghost use Rattle.arc.specs.Edges.{edgeNumbers, edgeOf};
 ghost use Rattle.arc.specs.Bounds.{Reach};
 
 // The number w at i, where i is inside the room; nothing past it.
-fn put(out: &mut [i32], i: usize, w: i32)
+pub fn put(out: &mut [i32], i: usize, w: i32)
     ensures { λ _. ⌜ now (out .exit) ≡ set (now (out .entry)) i w ⌝ }
 {
     if i < out.len() {
@@ -23,7 +23,7 @@ fn put(out: &mut [i32], i: usize, w: i32)
 }
 
 // A coordinate as it stands in lent numbers.
-fn narrow(z: i64) -> i32
+pub fn narrow(z: i64) -> i32
     requires { ⌜ Size (2 ^ 29) z ⌝ }
     ensures { λ r. ⌜ r ≡ z ⌝ }
 {
@@ -52,7 +52,7 @@ fn place(out: &mut [i32], i: usize, w: i32)
 }
 
 // One edge, all of it inside the room.
-fn store(out: &mut [i32], at: usize, e: Edge) -> usize
+pub fn store(out: &mut [i32], at: usize, e: Edge) -> usize
     requires { ⌜ Reach e ⌝ }
     requires { ⌜ Room edgeNumbers at (e ∷ []) ⌝ }
     requires { ⌜ at + 3 < length (now out) ⌝ }

@@ -7,12 +7,12 @@ use plane::vectors::cross;
 use plane::vectors::dot;
 use plane::vectors::square;
 ghost use mathlib.Core.Path.{_≡_};
-ghost use Prim.Native.Nat.{_^_, _≤_, _<_};
+ghost use Prim.Native.Nat.{_*_, _^_, _≤_, _<_};
 ghost use lib.IntN.{pos, _-ℤ_};
 ghost use Rattle.whole.specs.Sizes.{Size};
 ghost use Rattle.plane.specs.Directions.{UnitLong};
 ghost use Rattle.arc.specs.Bounds.{Turns};
-ghost use Rattle.arc.specs.Leaps.{strideOf, Comes, Ahead, Behind, Clears, Ends, Long, Moves};
+ghost use Rattle.arc.specs.Leaps.{strideOf, Leaps, Comes, Leads, Ahead, Behind, Clears, Ends, Long, Moves};
 
 // Where an arc has come to: about which direction, how far off that is at most, and after how many rotations.
 pub struct Leap {
@@ -67,8 +67,38 @@ fn clear(d: Vector, e: Vector, reach: u64) -> bool
     behind(dot(d, e), least)
 }
 
-// Where an arc from d comes to by leaps of eight rotations, and then of one. A rotation by `eight` is eight by the step but for 63 at most, and each
+// The next leap: by eight rotations where they are clear, else by one, else none. A rotation by `eight` is eight by the step but for 63 at most, and each
 // rotation of a direction that is off leaves it off by 3 more.
+fn leap_on(r: Turning, eight: Vector, far: u64, s: Leap) -> Leap
+    requires { ⌜ Turns r × Leaps (r .step) 8 63 eight × (far ≡ strideOf (r .step)) × (strideOf (r .step) ≤ 2 ^ 27) ⌝ }
+    requires { ⌜ UnitLong (s .direction) × (s .turns < 1527) × (s .off ≤ 9 * s .turns) ⌝ }
+    ensures { λ n. ⌜ Leads (r .step) (r .toward) (s .turns) (s .off) (s .direction) (n .turns) (n .off) (n .direction) × (s .turns ≤ n .turns) ⌝ }
+{
+    let d = s.direction;
+    if clear(d, r.toward, s.off + 8 * far) {
+        let next = rotated(eight, d);
+        let off = s.off + 66;
+        let turns = s.turns + 8;
+        return Leap {
+            direction: next,
+            off,
+            turns,
+        };
+    }
+    if clear(d, r.toward, s.off + far) {
+        let next = rotated(r.step, d);
+        let off = s.off + 3;
+        let turns = s.turns + 1;
+        return Leap {
+            direction: next,
+            off,
+            turns,
+        };
+    }
+    s
+}
+
+// Where an arc from d comes to by leaps, until none is clear.
 pub fn leapt(r: Turning, d: Vector) -> Leap
     requires { ⌜ Turns r × UnitLong d × (strideOf (r .step) ≤ 2 ^ 27) ⌝ }
     ensures { λ s. ⌜ Comes (r .step) (r .toward) d (s .turns) (s .off) (s .direction) ⌝ }
@@ -77,24 +107,19 @@ pub fn leapt(r: Turning, d: Vector) -> Leap
     let four = rotated(two, two);
     let eight = rotated(four, four);
     let far = stride(r.step);
-    let mut dir = d;
-    let mut off: u64 = 0;
-    let mut turns: usize = 0;
-    while turns < 1527 && clear(dir, r.toward, off + 8 * far) {
-        dir = rotated(eight, dir);
-        off += 66;
-        turns += 8;
+    let mut s = Leap {
+        direction: d,
+        off: 0,
+        turns: 0,
+    };
+    while s.turns < 1527 {
+        let n = leap_on(r, eight, far, s);
+        if n.turns == s.turns {
+            return s;
+        }
+        s = n;
     }
-    while turns < 1534 && clear(dir, r.toward, off + far) {
-        dir = rotated(r.step, dir);
-        off += 3;
-        turns += 1;
-    }
-    Leap {
-        direction: dir,
-        off,
-        turns,
-    }
+    s
 }
 
 // Whether an arc by steps of t towards e stops at every direction that is at most so far off d.

@@ -3,13 +3,19 @@ use crate::Drawn;
 use crate::Refusal;
 use crate::path_rows::PathCheck;
 use crate::path_rows::check_path;
+use arc::Pen;
+use arc::unfolding::unfold;
+use arc::unfolding::unfolded;
 use plane::direction::step;
+use variable_stroke::paths::Stand;
 use variable_stroke::paths::begin;
 use variable_stroke::paths::go_on;
 ghost use mathlib.Core.Path.{_≡_};
-ghost use Prim.Native.Nat.{_≤_, _<_};
+ghost use Prim.Native.Nat.{_^_, _≤_, _<_};
 ghost use lib.ListN.{length, take};
 ghost use Rattle.runs.specs.Runs.{over, put};
+ghost use Rattle.plane.specs.Directions.{UnitLong};
+ghost use Rattle.arc.specs.Folds.{Holds, Edgewise, RoomFor, Sizes, Unfolds};
 ghost use Rattle.outline.specs.Checks.{Fits};
 ghost use Rattle.outline.specs.Answers.{Draws};
 
@@ -25,22 +31,63 @@ fn copy(from: &[i32], m: usize, out: &mut [i32])
     }
 }
 
-// A path's edges by way of own numbers: kept there as far as they go, and counted to the end; where there is room, those are copied
-// and the rest is drawn.
-fn draw_through(path: &[i32], n: usize, grade: u32, own: &mut [i32], out: &mut [i32]) -> Drawn
-    requires { ⌜ Fits (now path) grade n × (0 < n) ⌝ }
+// How many numbers the edges come to that a pen has left in the first m own numbers.
+fn held_size(own: &[i32], m: usize, pen: Pen) -> usize
+    requires { ⌜ Holds (now own) m × Edgewise pen (now own) m × (m ≤ 2 ^ 32) ⌝ }
+    ensures { λ n. ⌜ Sizes (now (own .entry)) m n ⌝ }
+{
+    if pen.folds {
+        return unfolded(own, m);
+    }
+    m
+}
+
+// Those edges, into room that is long enough.
+fn put_held(own: &[i32], m: usize, pen: Pen, out: &mut [i32]) -> usize
+    requires { ⌜ UnitLong (pen .step) × Holds (now own) m × Edgewise pen (now own) m × RoomFor (pen .step) (now own) m (length (now out)) ⌝ }
+    ensures { λ n. ⌜ Unfolds (pen .step) (now (own .entry)) m (now (out .entry)) (now (out .exit)) n ⌝ }
+{
+    let t = pen.step;
+    if pen.folds {
+        return unfold(own, m, t, out);
+    }
+    copy(own, m, out);
+    m
+}
+
+// A path's edges by way of own numbers: they hold the first steps, as many as they can, and the rest is counted; where there is room, what
+// they hold is put there and the rest is drawn.
+fn draw_through(
+    path: &[i32],
+    n: usize,
+    grade: u32,
+    folds: bool,
+    own: &mut [i32],
+    out: &mut [i32],
+) -> Drawn
+    requires { ⌜ Fits (now path) grade n × (0 < n) × (length (now own) ≤ 2 ^ 32) ⌝ }
     ensures { λ r. ⌜ Draws (now (path .entry)) grade (now (out .entry)) r (now (out .exit)) ⌝ }
 {
     let t = step(grade);
-    let begun = begin(path, n, t, own);
-    let within = begun.within;
-    let past = begun.past;
-    let numbers = go_on(path, n, t, past, own);
+    let pen = Pen {
+        step: t,
+        folds: folds,
+    };
+    let begun = begin(path, n, pen, own);
+    let size = held_size(own, begun.at, pen);
+    let walk = begun.walk;
+    let rest = Stand {
+        walk: walk,
+        next: begun.next,
+        at: size,
+    };
+    let mut nowhere = [0i32; 0];
+    let numbers = go_on(path, n, t, rest, &mut nowhere);
     if out.len() < numbers {
         return Drawn::Refused(Refusal::NoRoom(numbers / 4));
     }
-    copy(own, within.at, out);
-    let done = go_on(path, n, t, within, out);
+    put_held(own, begun.at, pen, out);
+    let done = go_on(path, n, t, rest, out);
     Drawn::Edges(done / 4)
 }
 
@@ -49,6 +96,11 @@ fn likely(n: usize, grade: u32) -> usize
     requires { ⌜ (n ≤ 4096) × (grade ≤ 8) ⌝ }
 {
     n * (16 + (2 << grade))
+}
+
+// Whether arcs are folded: of fine steps, and where there are more numbers than own ones. Only speed leans on it.
+fn folds(grade: u32, about: usize) -> bool {
+    4 < grade && 131072 < about
 }
 
 // The edges of a path that passed its rows, by way of as many own numbers as it likely comes to.
@@ -62,14 +114,18 @@ pub fn draw_path(path: &[i32], n: usize, grade: u32, out: &mut [i32]) -> Drawn
     let about = likely(n, grade);
     if about <= 1024 {
         let mut own = [0i32; 1024];
-        return draw_through(path, n, grade, &mut own, out);
+        return draw_through(path, n, grade, false, &mut own, out);
     }
     if about <= 8192 {
         let mut own = [0i32; 8192];
-        return draw_through(path, n, grade, &mut own, out);
+        return draw_through(path, n, grade, false, &mut own, out);
     }
-    let mut own = [0i32; 81920];
-    draw_through(path, n, grade, &mut own, out)
+    if about <= 28672 {
+        let mut own = [0i32; 32768];
+        return draw_through(path, n, grade, false, &mut own, out);
+    }
+    let mut own = [0i32; 131072];
+    draw_through(path, n, grade, folds(grade, about), &mut own, out)
 }
 
 // The edges of a path, four numbers an edge, into lent numbers.

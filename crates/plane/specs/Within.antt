@@ -1,4 +1,4 @@
--- How far two vectors lie apart.
+-- How far two vectors lie apart. Document 01 says nothing of it: it is how far off a leap over many of an arc's rotations may be.
 use Prim.Native.Nat.{ℕ, _*_, _≤_}
 use lib.IntN.{_-ℤ_}
 use Rattle.plane.specs.Vectors.{squareOf}

@@ -1,6 +1,7 @@
 // The answer to each kind of case, or that its numbers lie outside what the function takes.
 use crate::guard::about;
 use crate::guard::whole;
+use arc::Pen;
 use arc::Sweep;
 use plane::Point;
 use plane::Vector;
@@ -38,7 +39,11 @@ pub fn arc(out: &mut [i32], t: Vector, v: Vertex, p: Point, q: Point, choice: Sw
     if !about(c, q) {
         return Answer::Outside;
     }
-    Answer::Edges(arc::arcs::arc(out, 0, t, c, v.radius, p, q, choice))
+    let pen = Pen {
+        step: t,
+        folds: false,
+    };
+    Answer::Edges(arc::arcs::arc(out, 0, pen, c, v.radius, p, q, choice))
 }
 
 // The edges of a vertex's circle.
@@ -48,7 +53,11 @@ pub fn circle(out: &mut [i32], t: Vector, v: Vertex) -> Answer
     if !allowed(v) {
         return Answer::Outside;
     }
-    Answer::Edges(arc::circle::circle(out, 0, t, centre(v), v.radius))
+    let pen = Pen {
+        step: t,
+        folds: false,
+    };
+    Answer::Edges(arc::circle::circle(out, 0, pen, centre(v), v.radius))
 }
 
 // The kind of the step from a to b and, unless it is broken, its section.
@@ -90,5 +99,9 @@ pub fn join(out: &mut [i32], t: Vector, a: Vertex, b: Vertex, c: Vertex, d: Vert
     }
     let prev = section(a, b);
     let next = section(c, d);
-    Answer::Edges(variable_stroke::builder_join::join(out, 0, t, prev, next))
+    let pen = Pen {
+        step: t,
+        folds: false,
+    };
+    Answer::Edges(variable_stroke::builder_join::join(out, 0, pen, prev, next))
 }

@@ -1,7 +1,7 @@
 -- One law for each case of a cap or a join, with what the code has computed as variables and equations; and what the limits leave of a section's
 -- contacts and vectors. Assumes nothing.
 use mathlib.Core.Path.{_≡_, refl, sym, _∙_}
-use mathlib.Core.Bool.{Bool, true, false, _&&_, true≢false}
+use mathlib.Core.Bool.{Bool, true, false}
 use mathlib.Core.List.{_++_}
 use Prim.Native.Nat.{_^_, _<_}
 use lib.IntN.{ℤ, pos}
@@ -19,7 +19,7 @@ use Rattle.arc.specs.declared.Sweep.the-variants.{Minor, Major}
 use Rattle.variable_stroke.specs.Contacts.{centreOf, lineOf}
 use Rattle.variable_stroke.specs.Joins.{innerOf, arcAbout, startChoice, startCap, endChoice, endCap, alongOf, bendOf, leftTurns, leftJoin, rightTurns, rightJoin, sameCentre, gapOf, joinOf}
 use Rattle.variable_stroke.specs.Bounds.{Inside, Around}
-use Rattle.arc.proofs.Rays.{about-near, same-is}
+use Rattle.arc.proofs.Rays.{about-near, same-point}
 use Rattle.variable_stroke.proofs.Contacts.{centre-is}
 use Rattle.variable_stroke.specs.declared.Vertex.{Vertex}
 use Rattle.variable_stroke.specs.declared.Section.{Section}
@@ -122,16 +122,6 @@ unfolding sameCentre
 centres-told m n e f g h = let k : samePoint (centreOf (m .b)) (centreOf (n .a)) ≡ _ = rw (e, f) at (sym g ∙ h) in k
 
 -- where the centres are one, a contact of the one section is about the other's vertex
-both-true : (a b : Bool) → (a && b) ≡ true → (a ≡ true) × (b ≡ true)
-both-true true b e = (refl, e)
-both-true false b e = absurd (true≢false (sym e))
-
-same-point : (p q : Point) → samePoint p q ≡ true → p ≡ q
-unfolding samePoint
-same-point p q e =
-    let h = both-true _ _ e in
-    λ i. record { x = same-is (p .x) (q .x) (h .0) i; y = same-is (p .y) (q .y) (h .1) i }
-
 pub about-shared-left : {m : Section} (n : Section) → sameCentre m n ≡ true → Around m → About (centreOf (n .a)) (m .left .b)
 unfolding sameCentre
 about-shared-left {m} n e h = rw (← same-point (centreOf (m .b)) (centreOf (n .a)) e) (h .left-b)

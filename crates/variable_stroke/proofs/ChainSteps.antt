@@ -5,18 +5,19 @@ use mathlib.Core.List.{List, [], _++_}
 use Prim.Native.Nat.{ℕ, _^_, _<_}
 use lib.IntN.{ℤ}
 use lib.Signed.{leZ, mag}
-use Rattle.runs.proofs.Laws.{runs-none, runs-as, runs-then, runs-to}
 use Rattle.plane.proofs.Products.{bits, back}
 use Rattle.plane.specs.declared.Point.{Point}
 use Rattle.plane.specs.declared.Vector.{Vector}
 use Rattle.arc.specs.Edges.{edgeOf}
+use Rattle.arc.specs.declared.Pen.{Pen}
+use Rattle.arc.proofs.Laid.{lays-none, lays-as, lays-then, lays-to}
 use Rattle.arc.specs.Arcs.{circleOf}
 use Rattle.variable_stroke.specs.Contacts.{centreOf, brokenOf, kindOf, sectionOf}
 use Rattle.variable_stroke.specs.Covering.{coveredOf}
 use Rattle.variable_stroke.specs.Joins.{startCap, endCap, joinOf}
 use Rattle.variable_stroke.specs.Chains.{freshOf, bothButt, loneOf, finishLast, finishOf, meetLast, drawnOf, breakEnd, breakStart, leaveEdges, leaveChain, leaveClosing, markedOf, emittedOf, nextChain, nextLast, nextClosing, nextOf, startOf}
 use Rattle.variable_stroke.specs.Bounds.{Inside, Around, AroundLast, AroundChain, AroundWalk}
-use Rattle.variable_stroke.specs.Steps.{Finishes, Starts, Draws, Leaves, Walks}
+use Rattle.variable_stroke.specs.Steps.{Finishes, Starts, Draws, Leaves, Strides}
 use Rattle.variable_stroke.proofs.Steps.{drawn-whole}
 use Rattle.variable_stroke.specs.declared.Vertex.{Vertex}
 use Rattle.variable_stroke.specs.declared.Section.{Section}
@@ -106,13 +107,13 @@ pub emitted-broken : (t : Vector) (w : Walk) (b : Vertex) {k : Cap} → kindOf (
 unfolding emittedOf
 emitted-broken t w b e f = rw (f, e, emittedOf)
 
-pub walk-broken : {l₀ l₁ : List ℤ} {at : ℕ} (t : Vector) (w : Walk) (b : Vertex) {i j : Cap} {f g : Stepped} → kindOf (w .at) b ≡ Broken
-    → i ≡ breakEnd (w .at) b → j ≡ breakStart (w .at) b → Finishes l₀ at t (w .chain) i l₁ f → Starts (f .at) b j g
-    → Walks l₀ at t w b l₁ (record { walk = record { at = b; chain = g .chain; previous = Nothing; closing = Round }; at = g .at })
+pub walk-broken : {l₀ l₁ : List ℤ} {at : ℕ} (pen : Pen) (w : Walk) (b : Vertex) {i j : Cap} {f g : Stepped} → kindOf (w .at) b ≡ Broken
+    → i ≡ breakEnd (w .at) b → j ≡ breakStart (w .at) b → Finishes l₀ at pen (w .chain) i l₁ f → Starts (f .at) b j g
+    → Strides l₀ at pen w b l₁ (record { walk = record { at = b; chain = g .chain; previous = Nothing; closing = Round }; at = g .at })
 unfolding nextOf nextChain nextLast nextClosing
-walk-broken t w b {i} {j} e ei ej p q = record {
+walk-broken pen w b {i} {j} e ei ej p q = record {
   walk = rw (q .chain, ej, e);
-  made = runs-to (q .at) (runs-as (emitted-broken t w b e ei) (p .made));
+  made = lays-to (q .at) (lays-as (emitted-broken (pen .step) w b e ei) (p .made));
 }
 
 -- ---- leaving a chain where b is covered
@@ -121,19 +122,19 @@ pub leave-finishes : (t : Vector) (w : Walk) (b : Vertex) {x : Bool} → x ≡ c
 unfolding leaveEdges
 leave-finishes t w b e f = let k : coveredOf (w .previous) b ≡ true = sym e ∙ f in rw (k, leaveEdges)
 
-pub leave-yes : {l₀ l₁ : List ℤ} {at : ℕ} (t : Vector) (w : Walk) (b : Vertex) {x : Bool} {f g : Stepped} → x ≡ coveredOf (w .previous) b → x ≡ true
-    → Finishes l₀ at t (w .chain) Round l₁ f → Starts (f .at) (w .at) Butt g → Leaves l₀ at t w b l₁ (record { chain = g .chain; closing = Butt; at = g .at })
+pub leave-yes : {l₀ l₁ : List ℤ} {at : ℕ} (pen : Pen) (w : Walk) (b : Vertex) {x : Bool} {f g : Stepped} → x ≡ coveredOf (w .previous) b → x ≡ true
+    → Finishes l₀ at pen (w .chain) Round l₁ f → Starts (f .at) (w .at) Butt g → Leaves l₀ at pen w b l₁ (record { chain = g .chain; closing = Butt; at = g .at })
 unfolding leaveChain leaveClosing
-leave-yes t w b e h p q =
+leave-yes pen w b e h p q =
     let k : coveredOf (w .previous) b ≡ true = sym e ∙ h in
-    record { chain = rw (k, leaveChain) (q .chain); closing = rw (k, leaveClosing); made = runs-to (q .at) (runs-as (leave-finishes t w b e h) (p .made)) }
+    record { chain = rw (k, leaveChain) (q .chain); closing = rw (k, leaveClosing); made = lays-to (q .at) (lays-as (leave-finishes (pen .step) w b e h) (p .made)) }
 
-pub leave-no : {l : List ℤ} {at : ℕ} (t : Vector) (w : Walk) (b : Vertex) {x : Bool} → x ≡ coveredOf (w .previous) b → x ≡ false
-    → Leaves l at t w b l (record { chain = w .chain; closing = Round; at = at })
+pub leave-no : {l : List ℤ} {at : ℕ} (pen : Pen) (w : Walk) (b : Vertex) {x : Bool} → x ≡ coveredOf (w .previous) b → x ≡ false
+    → Leaves l at pen w b l (record { chain = w .chain; closing = Round; at = at })
 unfolding leaveEdges leaveChain leaveClosing
-leave-no t w b e f =
+leave-no pen w b e f =
     let k : coveredOf (w .previous) b ≡ false = sym e ∙ f in
-    record { chain = rw (k, leaveChain); closing = rw (k, leaveClosing); made = rw (k, leaveEdges) runs-none }
+    record { chain = rw (k, leaveChain); closing = rw (k, leaveClosing); made = rw (k, leaveEdges) lays-none }
 
 -- ---- the steps that are not broken
 
@@ -146,19 +147,19 @@ pub emitted-thin : (t : Vector) (w : Walk) (b : Vertex) → kindOf (w .at) b ≡
 unfolding emittedOf
 emitted-thin t w b e = rw (e, emittedOf)
 
-pub walk-drawn : {l₀ l₁ l₂ : List ℤ} {at : ℕ} (t : Vector) (w : Walk) (b : Vertex) {s : Section} {r : Left} {g : Stepped} → kindOf (w .at) b ≡ Drawn
-    → Leaves l₀ at t w b l₁ r → s ≡ sectionOf (w .at) b → Draws l₁ (r .at) t (r .chain) s l₂ g
-    → Walks l₀ at t w b l₂ (record { walk = record { at = b; chain = g .chain; previous = Held s; closing = r .closing }; at = g .at })
+pub walk-drawn : {l₀ l₁ l₂ : List ℤ} {at : ℕ} (pen : Pen) (w : Walk) (b : Vertex) {s : Section} {r : Left} {g : Stepped} → kindOf (w .at) b ≡ Drawn
+    → Leaves l₀ at pen w b l₁ r → s ≡ sectionOf (w .at) b → Draws l₁ (r .at) pen (r .chain) s l₂ g
+    → Strides l₀ at pen w b l₂ (record { walk = record { at = b; chain = g .chain; previous = Held s; closing = r .closing }; at = g .at })
 unfolding nextOf nextChain nextLast nextClosing
-walk-drawn t w b {s} {r} {g} e l f d = record {
+walk-drawn pen w b {s} {r} {g} e l f d = record {
   walk = rw (d .chain, l .chain, l .closing, f, e);
-  made = runs-as (emitted-drawn t w b e (l .chain) f) (runs-then (l .made) (d .made));
+  made = lays-as (emitted-drawn (pen .step) w b e (l .chain) f) (lays-then (l .made) (d .made));
 }
 
-pub walk-thin : {l₀ l₁ : List ℤ} {at : ℕ} (t : Vector) (w : Walk) (b : Vertex) {r : Left} → kindOf (w .at) b ≡ Thin → Leaves l₀ at t w b l₁ r
-    → Walks l₀ at t w b l₁ (record { walk = record { at = b; chain = record { start = r .chain .start; cap = r .chain .cap; last = r .chain .last; mark = true }; previous = Nothing; closing = r .closing }; at = r .at })
+pub walk-thin : {l₀ l₁ : List ℤ} {at : ℕ} (pen : Pen) (w : Walk) (b : Vertex) {r : Left} → kindOf (w .at) b ≡ Thin → Leaves l₀ at pen w b l₁ r
+    → Strides l₀ at pen w b l₁ (record { walk = record { at = b; chain = record { start = r .chain .start; cap = r .chain .cap; last = r .chain .last; mark = true }; previous = Nothing; closing = r .closing }; at = r .at })
 unfolding nextOf nextChain nextLast nextClosing markedOf
-walk-thin t w b e l = record { walk = rw (l .chain, l .closing, e); made = runs-as (emitted-thin t w b e) (l .made) }
+walk-thin pen w b e l = record { walk = rw (l .chain, l .closing, e); made = lays-as (emitted-thin (pen .step) w b e) (l .made) }
 
 -- ---- what the limits leave of chains
 

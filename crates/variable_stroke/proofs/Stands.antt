@@ -4,24 +4,28 @@ use mathlib.Core.List.{List, [], _++_, append-assoc}
 use Prim.Native.Nat.{ℕ, _+_, _≤_, _<_}
 use native.Mathlib.Omega.{arith}
 use lib.IntN.{ℤ}
-use lib.ListN.{length, getD, take, drop, take-append-drop, length-append}
+use lib.ListN.{length, getD, drop, length-append}
+use lib.Seq.{length-take-le}
 use Rattle.runs.specs.Runs.{spread, over, Runs, Room, put}
 use Rattle.runs.proofs.Laws.{spread-append, runs-all, runs-as, runs-to, runs-then, room-first, room-as}
 use Rattle.runs.proofs.Written.{written-length, written-before, written-behind}
 use Rattle.plane.specs.declared.Vector.{Vector}
 use Rattle.arc.specs.Edges.{edgeNumbers}
+use Rattle.arc.specs.Folds.{edgesIn, foldNumbers, AllSound, Holds, Edgewise}
 use Rattle.arc.specs.declared.Edge.{Edge}
+use Rattle.arc.specs.declared.Pen.{Pen}
+use Rattle.arc.proofs.Laid.{folds-short, all-sound-append}
+use Rattle.arc.proofs.ReadBack.{same-folds}
 use Rattle.variable_stroke.specs.Bounds.{Inside, AroundWalk}
-use Rattle.variable_stroke.specs.Chains.{emittedOf, startOf}
+use Rattle.variable_stroke.specs.Chains.{emittedOf, startOf, nextOf}
 use Rattle.variable_stroke.specs.Limits.{firstOutside}
 use Rattle.variable_stroke.specs.Paths.{none, bodiesFrom, bodiesAt, joined}
 use Rattle.variable_stroke.specs.Stands.{firstStand, Along, Begins}
-use Rattle.variable_stroke.specs.Steps.{Walks}
+use Rattle.variable_stroke.specs.Steps.{Strides}
 use Rattle.variable_stroke.specs.declared.Vertex.{Vertex}
 use Rattle.variable_stroke.specs.declared.Walk.{Walk}
 use Rattle.variable_stroke.specs.declared.builder.Walked.{Walked}
 use Rattle.variable_stroke.specs.declared.paths.Stand.{Stand}
-use Rattle.variable_stroke.specs.declared.paths.Begun.{Begun}
 use Rattle.variable_stroke.proofs.Allowed.{inside-of}
 use Rattle.variable_stroke.proofs.ChainSteps.{start-around, next-around}
 use Rattle.variable_stroke.proofs.Contacts.{section-around}
@@ -80,67 +84,87 @@ module _ (t : Vector) (vs : List Vertex) {s : Stand} (some : 0 < length vs) (is 
 
 -- ---- a walk begun
 
--- a stand with every edge so far within the room
-abbrev pub AllHeld : Vector → List Vertex → List ℤ → Stand → Type 0
-AllHeld t vs l s = Begins t vs l (record { within = s; past = s })
+-- what is held takes no more numbers than its edges do
+begun-short : {pen : Pen} {vs : List Vertex} {l : List ℤ} {s : Stand} (h : Begins pen vs l s) → s .at ≤ length (spread edgeNumbers (spread (edgesIn (pen .step)) (h .held)))
+begun-short {pen} {l = l} {s = s} h =
+    omega (arith, ap length (h .numbers), length-take-le (s .at) l (h .whole), folds-short (pen .step) (h .held) (h .sound))
 
-module _ (t : Vector) (vs : List Vertex) (inside : firstOutside vs ≡ length vs) where
-  pub held-first : {s : Stand} {l : List ℤ} → 0 < length vs → s ≡ firstStand (getD vs 0 none) → AllHeld t vs l s
-  unfolding along-first spread
-  held-first some is =
-      let along = along-first t vs some is inside in
-      record { within = along; past = along; order = omega arith; held = rw (first-at t vs some is) }
+pub begun-along : {pen : Pen} {vs : List Vertex} {l : List ℤ} {s : Stand} {n : ℕ} (h : Begins pen vs l s) → n ≡ length (spread edgeNumbers (spread (edgesIn (pen .step)) (h .held)))
+    → Along (pen .step) vs (record { walk = s .walk; next = s .next; at = n })
+begun-along {pen} h e = record { before = spread (edgesIn (pen .step)) (h .held); edges = h .edges; at = e; around = h .around; next = h .next }
+
+-- what is held, unfolded, and then the rest
+pub begun-whole : {pen : Pen} {vs : List Vertex} {l : List ℤ} {s : Stand} {n k a : ℕ} {out out₁ out₂ : List ℤ} (h : Begins pen vs l s) → n ≡ length (spread edgeNumbers (spread (edgesIn (pen .step)) (h .held)))
+    → Runs put edgeNumbers out 0 (spread (edgesIn (pen .step)) (h .held)) out₁ k → Runs put edgeNumbers out₁ n (joined (bodiesFrom (pen .step) (s .walk) (drop (s .next) vs))) out₂ a
+    → Runs put edgeNumbers out 0 (joined (bodiesAt (pen .step) vs)) out₂ a
+unfolding begun-along
+begun-whole h e u q = along-whole (begun-along h e) (runs-to (omega (arith, e, u .pos)) u) q
+
+pub begun-holds : {pen : Pen} {vs : List Vertex} {l : List ℤ} {s : Stand} → Begins pen vs l s → Holds l (s .at)
+begun-holds h = record { held = h .held; sound = h .sound; numbers = h .numbers; whole = h .whole }
+
+pub begun-edgewise : {pen : Pen} {vs : List Vertex} {l : List ℤ} {s : Stand} → Begins pen vs l s → Edgewise pen l (s .at)
+begun-edgewise {pen} h = record { edgewise = λ e fs f i. rw (same-folds fs (h .held) f (h .sound) (sym i ∙ h .numbers)) (h .plain e) }
+
+-- there is room for what the walk still emits
+pub begun-room : {pen : Pen} {vs : List Vertex} {l : List ℤ} {s : Stand} → Begins pen vs l s → Room edgeNumbers 0 (joined (bodiesAt (pen .step) vs))
+    → Room edgeNumbers (s .at) (joined (bodiesFrom (pen .step) (s .walk) (drop (s .next) vs)))
+begun-room h r = record { fits = omega (arith, begun-short h, along-room (begun-along h refl) r .fits) }
+
+-- a step from w to the k-th vertex b: room for it, and the walk after it
+module _ (vs : List Vertex) (w : Walk) (k : ℕ) {b : Vertex} (less : k < length vs) (is : b ≡ getD vs k none) where
+  pub next-room : (t : Vector) {at : ℕ} → Room edgeNumbers at (joined (bodiesFrom t w (drop k vs))) → Room edgeNumbers at (emittedOf t w b)
+  next-room t r = room-first _ _ (room-as (edges-step t vs k w less is refl) r)
+
+  pub next-walk : firstOutside vs ≡ length vs → {v : Walk} → v ≡ nextOf w b → AroundWalk w → AroundWalk v
+  next-walk inside e h =
+      let i = next-inside vs k inside less is in
+      rw e (next-around _ _ (λ f. section-around (h .at) i f) h i)
+
+module _ (pen : Pen) (vs : List Vertex) (inside : firstOutside vs ≡ length vs) where
+  pub begun-first : {s : Stand} {l : List ℤ} → 0 < length vs → s ≡ firstStand (getD vs 0 none) → Begins pen vs l s
+  unfolding spread AllSound
+  begun-first some is =
+      let along = along-first (pen .step) vs some is inside in
+      record { held = []; sound = tt; numbers = rw (first-at (pen .step) vs some is); whole = omega (arith, first-at (pen .step) vs some is); plain = λ _. refl; edges = first-edges (pen .step) vs some is; around = along .around; next = along .next }
 
   -- a step to the vertex b
   module _ (w : Walk) (k : ℕ) {b : Vertex} (less : k < length vs) (is : b ≡ getD vs k none) where
-    pub next-room : {at : ℕ} → Room edgeNumbers at (joined (bodiesFrom t w (drop k vs))) → Room edgeNumbers at (emittedOf t w b)
-    next-room r = room-first _ _ (room-as (edges-step t vs k w less is refl) r)
+    module _ {l l₁ : List ℤ} {at : ℕ} {r : Walked} (p : Strides l at pen w b l₁ r) (h : Begins pen vs l (record { walk = w; next = k; at = at })) where
+      -- where the room holds it
+      pub begun-step : r .at ≤ length l₁ → Begins pen vs l₁ (record { walk = r .walk; next = k + 1; at = r .at })
+      begun-step fits =
+          let t = pen .step in
+          let more = p .made .held in
+          record {
+            held = h .held ++ more;
+            sound = all-sound-append (h .held) more (h .sound) (p .made .sound);
+            numbers = written-behind (omega (arith, written-length (p .made .made))) (p .made .made) ∙ ap (λ xs. xs ++ spread foldNumbers more) (h .numbers) ∙ sym (spread-append foldNumbers (h .held) more);
+            whole = fits;
+            plain = λ e.
+                spread-append foldNumbers (h .held) more
+                ∙ ap (λ xs. xs ++ spread foldNumbers more) (h .plain e)
+                ∙ ap (λ xs. spread edgeNumbers (spread (edgesIn t) (h .held)) ++ xs) (p .made .plain e ∙ ap (spread edgeNumbers) (p .made .edges))
+                ∙ sym (spread-append edgeNumbers (spread (edgesIn t) (h .held)) (spread (edgesIn t) more))
+                ∙ ap (spread edgeNumbers) (sym (spread-append (edgesIn t) (h .held) more));
+            edges =
+                h .edges
+                ∙ ap (λ es. spread (edgesIn t) (h .held) ++ es) (edges-step t vs k w less is (p .walk) ∙ ap (λ es. es ++ joined (bodiesFrom t (r .walk) (drop (k + 1) vs))) (p .made .edges))
+                ∙ sym (append-assoc (spread (edgesIn t) (h .held)) (spread (edgesIn t) more) (joined (bodiesFrom t (r .walk) (drop (k + 1) vs))))
+                ∙ ap (λ es. es ++ joined (bodiesFrom t (r .walk) (drop (k + 1) vs))) (sym (spread-append (edgesIn t) (h .held) more));
+            around = next-walk vs w k less is inside (p .walk) (h .around);
+            next = omega arith;
+          }
 
-    module _ {l l₁ : List ℤ} {at : ℕ} {r : Walked} (p : Walks l at t w b l₁ r) where
-      pub stepped-around : AroundWalk w → AroundWalk (r .walk)
-      stepped-around h =
-          let i = next-inside vs k inside less is in
-          rw (p .walk) (next-around _ _ (λ f. section-around (h .at) i f) h i)
-
-      along-step : Along t vs (record { walk = w; next = k; at = at }) → Along t vs (record { walk = r .walk; next = k + 1; at = r .at })
-      along-step h = record {
-        before = h .before ++ emittedOf t w b;
-        edges = h .edges ∙ ap (λ es. h .before ++ es) (edges-step t vs k w less is (p .walk)) ∙ sym (append-assoc (h .before) _ _);
-        at = omega (arith, p .made .pos, h .at, ap length (spread-append edgeNumbers (h .before) (emittedOf t w b)), length-append (spread edgeNumbers (h .before)) (spread edgeNumbers (emittedOf t w b)));
-        around = stepped-around (h .around);
-        next = omega arith;
+      -- and where it does not
+      pub begun-stays : Begins pen vs l₁ (record { walk = w; next = k; at = at })
+      begun-stays = record {
+        held = h .held;
+        sound = h .sound;
+        numbers = written-before at (omega arith) (p .made .made) ∙ h .numbers;
+        whole = omega (arith, h .whole, written-length (p .made .made));
+        plain = h .plain;
+        edges = h .edges;
+        around = h .around;
+        next = h .next;
       }
-
-      module _ (h : AllHeld t vs l (record { walk = w; next = k; at = at })) where
-        -- where its edges lie within the room
-        pub held-step : r .at ≤ length l₁ → AllHeld t vs l₁ (record { walk = r .walk; next = k + 1; at = r .at })
-        unfolding along-step
-        held-step fits = record {
-          within = along-step (h .within);
-          past = along-step (h .within);
-          order = omega arith;
-          held = written-behind (omega (arith, written-length (p .made))) (p .made) ∙ ap (λ xs. xs ++ spread edgeNumbers (emittedOf t w b)) (h .held) ∙ sym (spread-append edgeNumbers (h .within .before) (emittedOf t w b));
-        }
-
-        -- and wherever they lie
-        pub begins-past : Begins t vs l₁ (record { within = record { walk = w; next = k; at = at }; past = record { walk = r .walk; next = k + 1; at = r .at } })
-        begins-past = record {
-          within = h .within;
-          past = along-step (h .within);
-          order = omega (arith, p .made .pos);
-          held = written-before at (omega arith) (p .made) ∙ h .held;
-        }
-
--- ---- what the room holds of a walk begun
-
-module _ {t : Vector} {vs : List Vertex} {l : List ℤ} {b : Begun} (h : Begins t vs l b) where
-  pub held-long : b .within .at ≤ length l
-  held-long = omega (arith, h .within .at, ap length (h .held), ap length (take-append-drop (b .within .at) l), length-append (take (b .within .at) l) (drop (b .within .at) l))
-
-  -- the second stand's walk may go on in the room: what it holds, put elsewhere, are the edges before the first
-  pub held-put : {l₁ out out₁ : List ℤ} {es : List Edge} {a : ℕ} → Runs put edgeNumbers l (b .past .at) es l₁ a → out₁ ≡ over put out 0 (take (b .within .at) l₁)
-      → Runs put edgeNumbers out 0 (h .within .before) out₁ (b .within .at)
-  held-put {out = out} p e = record {
-    out = e ∙ ap (over put out 0) (written-before (b .within .at) (h .order) p ∙ h .held);
-    pos = omega (arith, h .within .at);
-  }

@@ -1,5 +1,6 @@
 -- Where a walk over a path stands between two steps, and what the steps so far have left in the room.
 use mathlib.Core.Path.{_≡_}
+use mathlib.Core.Bool.{false}
 use mathlib.Core.List.{List, _++_}
 use Prim.Native.Nat.{_≤_}
 use lib.IntN.{ℤ}
@@ -7,13 +8,15 @@ use lib.ListN.{length, take, drop}
 use Rattle.runs.specs.Runs.{spread}
 use Rattle.plane.specs.declared.Vector.{Vector}
 use Rattle.arc.specs.Edges.{edgeNumbers}
+use Rattle.arc.specs.Folds.{edgesIn, foldNumbers, AllSound}
 use Rattle.arc.specs.declared.Edge.{Edge}
+use Rattle.arc.specs.declared.Pen.{Pen}
+use Rattle.arc.specs.declared.Fold.{Fold}
 use Rattle.variable_stroke.specs.Chains.{startOf}
 use Rattle.variable_stroke.specs.Paths.{bodiesFrom, bodiesAt, joined}
 use Rattle.variable_stroke.specs.Bounds.{AroundWalk}
 use Rattle.variable_stroke.specs.declared.Vertex.{Vertex}
 use Rattle.variable_stroke.specs.declared.paths.Stand.{Stand}
-use Rattle.variable_stroke.specs.declared.paths.Begun.{Begun}
 
 -- the stand at a path's first vertex: no edge so far
 unfoldable pub firstStand : Vertex → Stand
@@ -27,9 +30,13 @@ pub record Along (t : Vector) (vs : List Vertex) (s : Stand) : Type 0 where
   pub around : AroundWalk (s .walk)
   pub next : s .next ≤ length vs
 
--- A walk begun over the room l: both its stands are on the path, the second no earlier, and the room holds every edge before the first.
-pub record Begins (t : Vector) (vs : List Vertex) (l : List ℤ) (b : Begun) : Type 0 where
-  pub within : Along t vs (b .within)
-  pub past : Along t vs (b .past)
-  pub order : b .within .at ≤ b .past .at
-  pub held : take (b .within .at) l ≡ spread edgeNumbers (within .before)
+-- A walk begun with a pen over the room l: up to where it stands the room holds the path's edges so far, and the walk still emits the rest.
+pub record Begins (pen : Pen) (vs : List Vertex) (l : List ℤ) (s : Stand) : Type 0 where
+  pub held : List Fold
+  pub sound : AllSound held
+  pub numbers : take (s .at) l ≡ spread foldNumbers held
+  pub whole : s .at ≤ length l
+  pub plain : pen .folds ≡ false → spread foldNumbers held ≡ spread edgeNumbers (spread (edgesIn (pen .step)) held)
+  pub edges : joined (bodiesAt (pen .step) vs) ≡ spread (edgesIn (pen .step)) held ++ joined (bodiesFrom (pen .step) (s .walk) (drop (s .next) vs))
+  pub around : AroundWalk (s .walk)
+  pub next : s .next ≤ length vs

@@ -6,6 +6,8 @@ use lib.IntN.{ℤ}
 use Rattle.runs.specs.Runs.{Runs, put}
 use Rattle.plane.specs.declared.Vector.{Vector}
 use Rattle.arc.specs.Edges.{edgeNumbers}
+use Rattle.arc.specs.Folds.{Lays}
+use Rattle.arc.specs.declared.Pen.{Pen}
 use Rattle.variable_stroke.specs.Chains.{freshOf, finishOf, drawnOf, leaveEdges, leaveChain, leaveClosing, markedOf, emittedOf, nextOf}
 use Rattle.variable_stroke.specs.declared.Vertex.{Vertex}
 use Rattle.variable_stroke.specs.declared.Section.{Section}
@@ -18,9 +20,9 @@ use Rattle.variable_stroke.specs.declared.builder.Left.{Left}
 use Rattle.variable_stroke.specs.declared.builder.Walked.{Walked}
 
 -- a chain finished with a cap: its edges, and the chain as it was
-pub record Finishes (l₀ : List ℤ) (at : ℕ) (t : Vector) (c : Chain) (k : Cap) (l₁ : List ℤ) (r : Stepped) : Type 0 where
+pub record Finishes (l₀ : List ℤ) (at : ℕ) (pen : Pen) (c : Chain) (k : Cap) (l₁ : List ℤ) (r : Stepped) : Type 0 where
   pub chain : r .chain ≡ c
-  pub made : Runs put edgeNumbers l₀ at (finishOf t c k) l₁ (r .at)
+  pub made : Lays (pen .step) (pen .folds) l₀ at (finishOf (pen .step) c k) l₁ (r .at)
 
 -- a chain started: no edges
 pub record Starts (a₀ : ℕ) (v : Vertex) (k : Cap) (r : Stepped) : Type 0 where
@@ -28,17 +30,22 @@ pub record Starts (a₀ : ℕ) (v : Vertex) (k : Cap) (r : Stepped) : Type 0 whe
   pub at : r .at ≡ a₀
 
 -- a chain after a drawn step
-pub record Draws (l₀ : List ℤ) (at : ℕ) (t : Vector) (c : Chain) (s : Section) (l₁ : List ℤ) (r : Stepped) : Type 0 where
+pub record Draws (l₀ : List ℤ) (at : ℕ) (pen : Pen) (c : Chain) (s : Section) (l₁ : List ℤ) (r : Stepped) : Type 0 where
   pub chain : r .chain ≡ markedOf c (Held s)
-  pub made : Runs put edgeNumbers l₀ at (drawnOf t c s) l₁ (r .at)
+  pub made : Lays (pen .step) (pen .folds) l₀ at (drawnOf (pen .step) c s) l₁ (r .at)
 
 -- a chain that a covered vertex may have ended
-pub record Leaves (l₀ : List ℤ) (at : ℕ) (t : Vector) (w : Walk) (b : Vertex) (l₁ : List ℤ) (r : Left) : Type 0 where
+pub record Leaves (l₀ : List ℤ) (at : ℕ) (pen : Pen) (w : Walk) (b : Vertex) (l₁ : List ℤ) (r : Left) : Type 0 where
   pub chain : r .chain ≡ leaveChain w b
   pub closing : r .closing ≡ leaveClosing (w .previous) b
-  pub made : Runs put edgeNumbers l₀ at (leaveEdges t w b) l₁ (r .at)
+  pub made : Lays (pen .step) (pen .folds) l₀ at (leaveEdges (pen .step) w b) l₁ (r .at)
 
--- a walk after a step
+-- a walk after a step with a pen
+pub record Strides (l₀ : List ℤ) (at : ℕ) (pen : Pen) (w : Walk) (b : Vertex) (l₁ : List ℤ) (r : Walked) : Type 0 where
+  pub walk : r .walk ≡ nextOf w b
+  pub made : Lays (pen .step) (pen .folds) l₀ at (emittedOf (pen .step) w b) l₁ (r .at)
+
+-- a walk after a step, edge by edge
 pub record Walks (l₀ : List ℤ) (at : ℕ) (t : Vector) (w : Walk) (b : Vertex) (l₁ : List ℤ) (r : Walked) : Type 0 where
   pub walk : r .walk ≡ nextOf w b
   pub made : Runs put edgeNumbers l₀ at (emittedOf t w b) l₁ (r .at)

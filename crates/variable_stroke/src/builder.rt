@@ -13,6 +13,7 @@ use crate::math::centre;
 use crate::math::kind;
 use crate::sections::covered;
 use crate::sections::section;
+use arc::Pen;
 use arc::circle::circle;
 use arc::edges::edge;
 use plane::Vector;
@@ -21,10 +22,11 @@ ghost use mathlib.Core.Bool.{true};
 ghost use Rattle.runs.specs.Runs.{Runs, Room, put};
 ghost use Rattle.plane.specs.Directions.{UnitLong};
 ghost use Rattle.arc.specs.Edges.{edgeNumbers};
+ghost use Rattle.arc.specs.Folds.{Lays};
 ghost use Rattle.variable_stroke.specs.Contacts.{kindOf};
 ghost use Rattle.variable_stroke.specs.Chains.{freshOf, bothButt, loneOf, finishOf, meetLast, drawnOf, breakEnd, breakStart, leaveEdges, emittedOf, startOf};
-ghost use Rattle.variable_stroke.specs.Bounds.{Inside, Around, AroundLast, AroundChain, AroundWalk};
-ghost use Rattle.variable_stroke.specs.Steps.{Finishes, Starts, Draws, Leaves, Walks};
+ghost use Rattle.variable_stroke.specs.Bounds.{Inside, Around, AroundChain, AroundWalk};
+ghost use Rattle.variable_stroke.specs.Steps.{Finishes, Starts, Draws, Leaves, Strides, Walks};
 ghost use Rattle.variable_stroke.specs.declared.Kind.the-variants.{Broken, Drawn, Thin};
 
 // A chain, and where the output has come to.
@@ -73,10 +75,10 @@ impl Chain {
     }
 
     // The circle of a vertex that no step was made from.
-    fn lone(self, out: &mut [i32], at: usize, t: Vector, cap: Cap) -> usize
-        requires { ⌜ UnitLong t × AroundChain self ⌝ }
-        requires { ⌜ Room edgeNumbers at (loneOf t self cap) ⌝ }
-        ensures { λ n. ⌜ Runs put edgeNumbers (now (out .entry)) at (loneOf t self cap) (now (out .exit)) n ⌝ }
+    fn lone(self, out: &mut [i32], at: usize, pen: Pen, cap: Cap) -> usize
+        requires { ⌜ UnitLong (pen .step) × AroundChain self ⌝ }
+        requires { ⌜ Room edgeNumbers at (loneOf (pen .step) self cap) ⌝ }
+        ensures { λ n. ⌜ Lays (pen .step) (pen .folds) (now (out .entry)) at (loneOf (pen .step) self cap) (now (out .exit)) n ⌝ }
     {
         let start = self.start;
         let begun = self.cap;
@@ -86,29 +88,29 @@ impl Chain {
         if both_butt(begun, cap) {
             return at;
         }
-        circle(out, at, t, centre(start), start.radius)
+        circle(out, at, pen, centre(start), start.radius)
     }
 
     // What ends the chain.
-    pub fn end(self, out: &mut [i32], at: usize, t: Vector, cap: Cap) -> usize
-        requires { ⌜ UnitLong t × AroundChain self ⌝ }
-        requires { ⌜ Room edgeNumbers at (finishOf t self cap) ⌝ }
-        ensures { λ n. ⌜ Runs put edgeNumbers (now (out .entry)) at (finishOf t self cap) (now (out .exit)) n ⌝ }
+    pub fn end(self, out: &mut [i32], at: usize, pen: Pen, cap: Cap) -> usize
+        requires { ⌜ UnitLong (pen .step) × AroundChain self ⌝ }
+        requires { ⌜ Room edgeNumbers at (finishOf (pen .step) self cap) ⌝ }
+        ensures { λ n. ⌜ Lays (pen .step) (pen .folds) (now (out .entry)) at (finishOf (pen .step) self cap) (now (out .exit)) n ⌝ }
     {
         let last = self.last;
         match last {
-            Last::Held(s) => end_cap(out, at, t, s, cap),
-            Last::Nothing => self.lone(out, at, t, cap),
+            Last::Held(s) => end_cap(out, at, pen, s, cap),
+            Last::Nothing => self.lone(out, at, pen, cap),
         }
     }
 
     // The chain ended with a cap; it is handed back as it is, to be started anew.
-    pub fn finish(mut self, out: &mut [i32], at: usize, t: Vector, cap: Cap) -> Stepped
-        requires { ⌜ UnitLong t × AroundChain self ⌝ }
-        requires { ⌜ Room edgeNumbers at (finishOf t self cap) ⌝ }
-        ensures { λ r. ⌜ Finishes (now (out .entry)) at t self cap (now (out .exit)) r ⌝ }
+    pub fn finish(mut self, out: &mut [i32], at: usize, pen: Pen, cap: Cap) -> Stepped
+        requires { ⌜ UnitLong (pen .step) × AroundChain self ⌝ }
+        requires { ⌜ Room edgeNumbers at (finishOf (pen .step) self cap) ⌝ }
+        ensures { λ r. ⌜ Finishes (now (out .entry)) at pen self cap (now (out .exit)) r ⌝ }
     {
-        let n = self.end(out, at, t, cap);
+        let n = self.end(out, at, pen, cap);
         Stepped { chain: self, at: n }
     }
 
@@ -124,39 +126,39 @@ impl Chain {
     }
 
     // A join to the last section, or the start cap.
-    fn meet(self, out: &mut [i32], at: usize, t: Vector, s: Section) -> usize
-        requires { ⌜ UnitLong t × AroundChain self × Around s ⌝ }
-        requires { ⌜ Room edgeNumbers at (meetLast t (self .last) (self .cap) s) ⌝ }
-        ensures { λ n. ⌜ Runs put edgeNumbers (now (out .entry)) at (meetLast t (self .last) (self .cap) s) (now (out .exit)) n ⌝ }
+    fn meet(self, out: &mut [i32], at: usize, pen: Pen, s: Section) -> usize
+        requires { ⌜ UnitLong (pen .step) × AroundChain self × Around s ⌝ }
+        requires { ⌜ Room edgeNumbers at (meetLast (pen .step) (self .last) (self .cap) s) ⌝ }
+        ensures { λ n. ⌜ Lays (pen .step) (pen .folds) (now (out .entry)) at (meetLast (pen .step) (self .last) (self .cap) s) (now (out .exit)) n ⌝ }
     {
         let last = self.last;
         let cap = self.cap;
         match last {
-            Last::Held(prev) => join(out, at, t, prev, s),
-            Last::Nothing => start_cap(out, at, t, s, cap),
+            Last::Held(prev) => join(out, at, pen, prev, s),
+            Last::Nothing => start_cap(out, at, pen, s, cap),
         }
     }
 
     // The edges of a drawn step.
-    fn drawn(self, out: &mut [i32], at: usize, t: Vector, s: Section) -> usize
-        requires { ⌜ UnitLong t × AroundChain self × Around s ⌝ }
-        requires { ⌜ Room edgeNumbers at (drawnOf t self s) ⌝ }
-        ensures { λ n. ⌜ Runs put edgeNumbers (now (out .entry)) at (drawnOf t self s) (now (out .exit)) n ⌝ }
+    fn drawn(self, out: &mut [i32], at: usize, pen: Pen, s: Section) -> usize
+        requires { ⌜ UnitLong (pen .step) × AroundChain self × Around s ⌝ }
+        requires { ⌜ Room edgeNumbers at (drawnOf (pen .step) self s) ⌝ }
+        ensures { λ n. ⌜ Lays (pen .step) (pen .folds) (now (out .entry)) at (drawnOf (pen .step) self s) (now (out .exit)) n ⌝ }
     {
         let left = s.left;
         let right = s.right;
         let n = edge(out, at, left.b, left.a);
         let m = edge(out, n, right.a, right.b);
-        self.meet(out, m, t, s)
+        self.meet(out, m, pen, s)
     }
 
     // A step made: the mark is set, and a drawn section becomes the last.
-    pub fn step(mut self, out: &mut [i32], at: usize, t: Vector, s: Section) -> Stepped
-        requires { ⌜ UnitLong t × AroundChain self × Around s ⌝ }
-        requires { ⌜ Room edgeNumbers at (drawnOf t self s) ⌝ }
-        ensures { λ r. ⌜ Draws (now (out .entry)) at t self s (now (out .exit)) r ⌝ }
+    pub fn step(mut self, out: &mut [i32], at: usize, pen: Pen, s: Section) -> Stepped
+        requires { ⌜ UnitLong (pen .step) × AroundChain self × Around s ⌝ }
+        requires { ⌜ Room edgeNumbers at (drawnOf (pen .step) self s) ⌝ }
+        ensures { λ r. ⌜ Draws (now (out .entry)) at pen self s (now (out .exit)) r ⌝ }
     {
-        let n = self.drawn(out, at, t, s);
+        let n = self.drawn(out, at, pen, s);
         let start = self.start;
         let cap = self.cap;
         self = Chain {
@@ -203,14 +205,14 @@ impl Walk {
     }
 
     // A step that breaks the chain: it ends, and one starts at b.
-    fn broken(self, out: &mut [i32], at: usize, t: Vector, b: Vertex) -> Walked
-        requires { ⌜ UnitLong t × AroundWalk self × Inside b × (kindOf (self .at) b ≡ Broken) ⌝ }
-        requires { ⌜ Room edgeNumbers at (emittedOf t self b) ⌝ }
-        ensures { λ r. ⌜ Walks (now (out .entry)) at t self b (now (out .exit)) r ⌝ }
+    fn broken(self, out: &mut [i32], at: usize, pen: Pen, b: Vertex) -> Walked
+        requires { ⌜ UnitLong (pen .step) × AroundWalk self × Inside b × (kindOf (self .at) b ≡ Broken) ⌝ }
+        requires { ⌜ Room edgeNumbers at (emittedOf (pen .step) self b) ⌝ }
+        ensures { λ r. ⌜ Strides (now (out .entry)) at pen self b (now (out .exit)) r ⌝ }
     {
         let a = self.at;
         let chain = self.chain;
-        let ended = chain.finish(out, at, t, break_end(a, b));
+        let ended = chain.finish(out, at, pen, break_end(a, b));
         let begun = ended.chain.start(ended.at, b, break_start(a, b));
         let next = begun.chain;
         Walked {
@@ -225,16 +227,16 @@ impl Walk {
     }
 
     // Where the previous section covers b the chain ends, and one starts at the vertex before.
-    fn leave(self, out: &mut [i32], at: usize, t: Vector, b: Vertex) -> Left
-        requires { ⌜ UnitLong t × AroundWalk self × Inside b ⌝ }
-        requires { ⌜ Room edgeNumbers at (leaveEdges t self b) ⌝ }
-        ensures { λ r. ⌜ Leaves (now (out .entry)) at t self b (now (out .exit)) r ⌝ }
+    fn leave(self, out: &mut [i32], at: usize, pen: Pen, b: Vertex) -> Left
+        requires { ⌜ UnitLong (pen .step) × AroundWalk self × Inside b ⌝ }
+        requires { ⌜ Room edgeNumbers at (leaveEdges (pen .step) self b) ⌝ }
+        ensures { λ r. ⌜ Leaves (now (out .entry)) at pen self b (now (out .exit)) r ⌝ }
     {
         let a = self.at;
         let chain = self.chain;
         let previous = self.previous;
         if covered(previous, b) {
-            let ended = chain.finish(out, at, t, Cap::Round);
+            let ended = chain.finish(out, at, pen, Cap::Round);
             let begun = ended.chain.start(ended.at, a, Cap::Butt);
             let next = begun.chain;
             return Left {
@@ -251,17 +253,17 @@ impl Walk {
     }
 
     // A drawn step.
-    fn drawn(self, out: &mut [i32], at: usize, t: Vector, b: Vertex) -> Walked
-        requires { ⌜ UnitLong t × AroundWalk self × Inside b × (kindOf (self .at) b ≡ Drawn) ⌝ }
-        requires { ⌜ Room edgeNumbers at (emittedOf t self b) ⌝ }
-        ensures { λ r. ⌜ Walks (now (out .entry)) at t self b (now (out .exit)) r ⌝ }
+    fn drawn(self, out: &mut [i32], at: usize, pen: Pen, b: Vertex) -> Walked
+        requires { ⌜ UnitLong (pen .step) × AroundWalk self × Inside b × (kindOf (self .at) b ≡ Drawn) ⌝ }
+        requires { ⌜ Room edgeNumbers at (emittedOf (pen .step) self b) ⌝ }
+        ensures { λ r. ⌜ Strides (now (out .entry)) at pen self b (now (out .exit)) r ⌝ }
     {
         let a = self.at;
-        let left = self.leave(out, at, t, b);
+        let left = self.leave(out, at, pen, b);
         let chain = left.chain;
         let closing = left.closing;
         let s = section(a, b);
-        let stepped = chain.step(out, left.at, t, s);
+        let stepped = chain.step(out, left.at, pen, s);
         let next = stepped.chain;
         Walked {
             walk: Walk {
@@ -275,12 +277,12 @@ impl Walk {
     }
 
     // A thin step: nothing is drawn, and the last section stays.
-    fn thin(self, out: &mut [i32], at: usize, t: Vector, b: Vertex) -> Walked
-        requires { ⌜ UnitLong t × AroundWalk self × Inside b × (kindOf (self .at) b ≡ Thin) ⌝ }
-        requires { ⌜ Room edgeNumbers at (emittedOf t self b) ⌝ }
-        ensures { λ r. ⌜ Walks (now (out .entry)) at t self b (now (out .exit)) r ⌝ }
+    fn thin(self, out: &mut [i32], at: usize, pen: Pen, b: Vertex) -> Walked
+        requires { ⌜ UnitLong (pen .step) × AroundWalk self × Inside b × (kindOf (self .at) b ≡ Thin) ⌝ }
+        requires { ⌜ Room edgeNumbers at (emittedOf (pen .step) self b) ⌝ }
+        ensures { λ r. ⌜ Strides (now (out .entry)) at pen self b (now (out .exit)) r ⌝ }
     {
-        let left = self.leave(out, at, t, b);
+        let left = self.leave(out, at, pen, b);
         let closing = left.closing;
         let mut chain = left.chain;
         chain.mark = true;
@@ -295,19 +297,32 @@ impl Walk {
         }
     }
 
-    // The step to the next vertex.
+    // The step to the next vertex, with a pen.
+    pub fn stride(self, out: &mut [i32], at: usize, pen: Pen, b: Vertex) -> Walked
+        requires { ⌜ UnitLong (pen .step) × AroundWalk self × Inside b ⌝ }
+        requires { ⌜ Room edgeNumbers at (emittedOf (pen .step) self b) ⌝ }
+        ensures { λ r. ⌜ Strides (now (out .entry)) at pen self b (now (out .exit)) r ⌝ }
+    {
+        let a = self.at;
+        let k = kind(a, b);
+        match k {
+            Kind::Broken => self.broken(out, at, pen, b),
+            Kind::Drawn => self.drawn(out, at, pen, b),
+            Kind::Thin => self.thin(out, at, pen, b),
+        }
+    }
+
+    // The step to the next vertex, edge by edge.
     pub fn step(self, out: &mut [i32], at: usize, t: Vector, b: Vertex) -> Walked
         requires { ⌜ UnitLong t × AroundWalk self × Inside b ⌝ }
         requires { ⌜ Room edgeNumbers at (emittedOf t self b) ⌝ }
         ensures { λ r. ⌜ Walks (now (out .entry)) at t self b (now (out .exit)) r ⌝ }
     {
-        let a = self.at;
-        let k = kind(a, b);
-        match k {
-            Kind::Broken => self.broken(out, at, t, b),
-            Kind::Drawn => self.drawn(out, at, t, b),
-            Kind::Thin => self.thin(out, at, t, b),
-        }
+        let pen = Pen {
+            step: t,
+            folds: false,
+        };
+        self.stride(out, at, pen, b)
     }
 
     // The closing body.
@@ -318,6 +333,10 @@ impl Walk {
     {
         let chain = self.chain;
         let closing = self.closing;
-        chain.end(out, at, t, closing)
+        let pen = Pen {
+            step: t,
+            folds: false,
+        };
+        chain.end(out, at, pen, closing)
     }
 }

@@ -6,6 +6,7 @@ use crate::Vertex;
 use crate::math::centre;
 use crate::math::line;
 use arc::Edge;
+use arc::Pen;
 use arc::Sweep;
 use arc::arcs::arc;
 use arc::edges::edge;
@@ -16,11 +17,11 @@ use plane::vectors::from_to;
 use plane::vectors::same;
 ghost use mathlib.Core.Path.{_≡_};
 ghost use mathlib.Core.Bool.{true};
-ghost use Rattle.runs.specs.Runs.{Runs, Room, put};
-ghost use Rattle.plane.specs.Vectors.{Near};
+ghost use Rattle.runs.specs.Runs.{Room};
 ghost use Rattle.plane.specs.Directions.{UnitLong};
 ghost use Rattle.arc.specs.Edges.{edgeNumbers};
 ghost use Rattle.arc.specs.Bounds.{About, Reach};
+ghost use Rattle.arc.specs.Folds.{Lays};
 ghost use Rattle.variable_stroke.specs.Contacts.{centreOf};
 ghost use Rattle.variable_stroke.specs.Joins.{arcAbout, startChoice, startCap, endChoice, endCap, alongOf, bendOf, leftTurns, leftJoin, rightTurns, rightJoin, sameCentre, gapOf, joinOf};
 ghost use Rattle.variable_stroke.specs.Bounds.{Inside, Around};
@@ -29,17 +30,17 @@ ghost use Rattle.variable_stroke.specs.Bounds.{Inside, Around};
 fn arc_about(
     out: &mut [i32],
     at: usize,
-    t: Vector,
+    pen: Pen,
     v: Vertex,
     p: Point,
     q: Point,
     choice: Sweep,
 ) -> usize
-    requires { ⌜ UnitLong t × Inside v × About (centreOf v) p × About (centreOf v) q ⌝ }
-    requires { ⌜ Room edgeNumbers at (arcAbout t v p q choice) ⌝ }
-    ensures { λ n. ⌜ Runs put edgeNumbers (now (out .entry)) at (arcAbout t v p q choice) (now (out .exit)) n ⌝ }
+    requires { ⌜ UnitLong (pen .step) × Inside v × About (centreOf v) p × About (centreOf v) q ⌝ }
+    requires { ⌜ Room edgeNumbers at (arcAbout (pen .step) v p q choice) ⌝ }
+    ensures { λ n. ⌜ Lays (pen .step) (pen .folds) (now (out .entry)) at (arcAbout (pen .step) v p q choice) (now (out .exit)) n ⌝ }
 {
-    arc(out, at, t, centre(v), v.radius, p, q, choice)
+    arc(out, at, pen, centre(v), v.radius, p, q, choice)
 }
 
 // How a start cap sweeps where its rays are aligned.
@@ -65,10 +66,10 @@ fn end_choice(trend: Trend) -> Sweep
 }
 
 // The cap where a chain starts.
-pub fn start_cap(out: &mut [i32], at: usize, t: Vector, s: Section, cap: Cap) -> usize
-    requires { ⌜ UnitLong t × Around s ⌝ }
-    requires { ⌜ Room edgeNumbers at (startCap t s cap) ⌝ }
-    ensures { λ n. ⌜ Runs put edgeNumbers (now (out .entry)) at (startCap t s cap) (now (out .exit)) n ⌝ }
+pub fn start_cap(out: &mut [i32], at: usize, pen: Pen, s: Section, cap: Cap) -> usize
+    requires { ⌜ UnitLong (pen .step) × Around s ⌝ }
+    requires { ⌜ Room edgeNumbers at (startCap (pen .step) s cap) ⌝ }
+    ensures { λ n. ⌜ Lays (pen .step) (pen .folds) (now (out .entry)) at (startCap (pen .step) s cap) (now (out .exit)) n ⌝ }
 {
     let p = s.left.a;
     let q = s.right.a;
@@ -76,15 +77,15 @@ pub fn start_cap(out: &mut [i32], at: usize, t: Vector, s: Section, cap: Cap) ->
     let a = s.a;
     match cap {
         Cap::Butt => edge(out, at, p, q),
-        Cap::Round => arc_about(out, at, t, a, p, q, start_choice(trend)),
+        Cap::Round => arc_about(out, at, pen, a, p, q, start_choice(trend)),
     }
 }
 
 // The cap where a chain ends.
-pub fn end_cap(out: &mut [i32], at: usize, t: Vector, s: Section, cap: Cap) -> usize
-    requires { ⌜ UnitLong t × Around s ⌝ }
-    requires { ⌜ Room edgeNumbers at (endCap t s cap) ⌝ }
-    ensures { λ n. ⌜ Runs put edgeNumbers (now (out .entry)) at (endCap t s cap) (now (out .exit)) n ⌝ }
+pub fn end_cap(out: &mut [i32], at: usize, pen: Pen, s: Section, cap: Cap) -> usize
+    requires { ⌜ UnitLong (pen .step) × Around s ⌝ }
+    requires { ⌜ Room edgeNumbers at (endCap (pen .step) s cap) ⌝ }
+    ensures { λ n. ⌜ Lays (pen .step) (pen .folds) (now (out .entry)) at (endCap (pen .step) s cap) (now (out .exit)) n ⌝ }
 {
     let p = s.right.b;
     let q = s.left.b;
@@ -92,7 +93,7 @@ pub fn end_cap(out: &mut [i32], at: usize, t: Vector, s: Section, cap: Cap) -> u
     let b = s.b;
     match cap {
         Cap::Butt => edge(out, at, p, q),
-        Cap::Round => arc_about(out, at, t, b, p, q, end_choice(trend)),
+        Cap::Round => arc_about(out, at, pen, b, p, q, end_choice(trend)),
     }
 }
 
@@ -135,54 +136,54 @@ fn right_turns(prev: Section, next: Section) -> bool
 }
 
 // The left of a join: from the next section back to the previous one.
-fn left_join(out: &mut [i32], at: usize, t: Vector, prev: Section, next: Section) -> usize
-    requires { ⌜ UnitLong t × Around prev × Around next × (sameCentre prev next ≡ true) ⌝ }
-    requires { ⌜ Room edgeNumbers at (leftJoin t prev next) ⌝ }
-    ensures { λ n. ⌜ Runs put edgeNumbers (now (out .entry)) at (leftJoin t prev next) (now (out .exit)) n ⌝ }
+fn left_join(out: &mut [i32], at: usize, pen: Pen, prev: Section, next: Section) -> usize
+    requires { ⌜ UnitLong (pen .step) × Around prev × Around next × (sameCentre prev next ≡ true) ⌝ }
+    requires { ⌜ Room edgeNumbers at (leftJoin (pen .step) prev next) ⌝ }
+    ensures { λ n. ⌜ Lays (pen .step) (pen .folds) (now (out .entry)) at (leftJoin (pen .step) prev next) (now (out .exit)) n ⌝ }
 {
     let p = next.left.a;
     let q = prev.left.b;
     let v = next.a;
     if left_turns(prev, next) {
-        return arc_about(out, at, t, v, p, q, Sweep::Minor);
+        return arc_about(out, at, pen, v, p, q, Sweep::Minor);
     }
     edge(out, at, p, q)
 }
 
 // The right of a join: from the previous section to the next one.
-fn right_join(out: &mut [i32], at: usize, t: Vector, prev: Section, next: Section) -> usize
-    requires { ⌜ UnitLong t × Around prev × Around next × (sameCentre prev next ≡ true) ⌝ }
-    requires { ⌜ Room edgeNumbers at (rightJoin t prev next) ⌝ }
-    ensures { λ n. ⌜ Runs put edgeNumbers (now (out .entry)) at (rightJoin t prev next) (now (out .exit)) n ⌝ }
+fn right_join(out: &mut [i32], at: usize, pen: Pen, prev: Section, next: Section) -> usize
+    requires { ⌜ UnitLong (pen .step) × Around prev × Around next × (sameCentre prev next ≡ true) ⌝ }
+    requires { ⌜ Room edgeNumbers at (rightJoin (pen .step) prev next) ⌝ }
+    ensures { λ n. ⌜ Lays (pen .step) (pen .folds) (now (out .entry)) at (rightJoin (pen .step) prev next) (now (out .exit)) n ⌝ }
 {
     let p = prev.right.b;
     let q = next.right.a;
     let v = prev.b;
     if right_turns(prev, next) {
-        return arc_about(out, at, t, v, p, q, Sweep::Major);
+        return arc_about(out, at, pen, v, p, q, Sweep::Major);
     }
     edge(out, at, p, q)
 }
 
 // A gap: the previous section ends, and the next one starts, with a straight edge.
-fn gap(out: &mut [i32], at: usize, t: Vector, prev: Section, next: Section) -> usize
-    requires { ⌜ UnitLong t × Around prev × Around next ⌝ }
-    requires { ⌜ Room edgeNumbers at (gapOf t prev next) ⌝ }
-    ensures { λ n. ⌜ Runs put edgeNumbers (now (out .entry)) at (gapOf t prev next) (now (out .exit)) n ⌝ }
+fn gap(out: &mut [i32], at: usize, pen: Pen, prev: Section, next: Section) -> usize
+    requires { ⌜ UnitLong (pen .step) × Around prev × Around next ⌝ }
+    requires { ⌜ Room edgeNumbers at (gapOf (pen .step) prev next) ⌝ }
+    ensures { λ n. ⌜ Lays (pen .step) (pen .folds) (now (out .entry)) at (gapOf (pen .step) prev next) (now (out .exit)) n ⌝ }
 {
-    let n = end_cap(out, at, t, prev, Cap::Butt);
-    start_cap(out, n, t, next, Cap::Butt)
+    let n = end_cap(out, at, pen, prev, Cap::Butt);
+    start_cap(out, n, pen, next, Cap::Butt)
 }
 
 // The join of two sections: about the vertex that they share, or across the gap between them.
-pub fn join(out: &mut [i32], at: usize, t: Vector, prev: Section, next: Section) -> usize
-    requires { ⌜ UnitLong t × Around prev × Around next ⌝ }
-    requires { ⌜ Room edgeNumbers at (joinOf t prev next) ⌝ }
-    ensures { λ n. ⌜ Runs put edgeNumbers (now (out .entry)) at (joinOf t prev next) (now (out .exit)) n ⌝ }
+pub fn join(out: &mut [i32], at: usize, pen: Pen, prev: Section, next: Section) -> usize
+    requires { ⌜ UnitLong (pen .step) × Around prev × Around next ⌝ }
+    requires { ⌜ Room edgeNumbers at (joinOf (pen .step) prev next) ⌝ }
+    ensures { λ n. ⌜ Lays (pen .step) (pen .folds) (now (out .entry)) at (joinOf (pen .step) prev next) (now (out .exit)) n ⌝ }
 {
     if same(centre(prev.b), centre(next.a)) {
-        let n = left_join(out, at, t, prev, next);
-        return right_join(out, n, t, prev, next);
+        let n = left_join(out, at, pen, prev, next);
+        return right_join(out, n, pen, prev, next);
     }
-    gap(out, at, t, prev, next)
+    gap(out, at, pen, prev, next)
 }

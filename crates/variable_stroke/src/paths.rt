@@ -1,6 +1,7 @@
 // Paths in lent numbers, three a vertex, and the walk over one: it counts and it writes.
 use crate::Vertex;
 use crate::Walk;
+use arc::Pen;
 use plane::Vector;
 ghost use mathlib.Core.Path.{_≡_};
 ghost use Prim.Native.Nat.{_≤_, _<_};
@@ -77,12 +78,6 @@ pub struct Stand {
     pub at: usize,
 }
 
-// Where a walk stood last with every edge so far within the room, and where it stands one step on, if there is one.
-pub struct Begun {
-    pub within: Stand,
-    pub past: Stand,
-}
-
 // The stand at the first vertex.
 fn first_stand(path: &[i32]) -> Stand
     requires { ⌜ 0 < length (pathOf (now path)) ⌝ }
@@ -95,46 +90,34 @@ fn first_stand(path: &[i32]) -> Stand
     }
 }
 
-// The steps whose edges all lie within the room, and one more where that overflows it.
-pub fn begin(path: &[i32], n: usize, t: Vector, out: &mut [i32]) -> Begun
-    requires { ⌜ (n ≡ length (pathOf (now path))) × (firstOutside (pathOf (now path)) ≡ length (pathOf (now path))) × UnitLong t × (0 < n) ⌝ }
-    requires { ⌜ Room edgeNumbers 0 (joined (bodiesAt t (pathOf (now path)))) ⌝ }
-    ensures { λ r. ⌜ Begins t (pathOf (now (path .entry))) (now (out .exit)) r ⌝ }
+// The steps that the room holds, with a pen.
+pub fn begin(path: &[i32], n: usize, pen: Pen, out: &mut [i32]) -> Stand
+    requires { ⌜ (n ≡ length (pathOf (now path))) × (firstOutside (pathOf (now path)) ≡ length (pathOf (now path))) × UnitLong (pen .step) × (0 < n) ⌝ }
+    requires { ⌜ Room edgeNumbers 0 (joined (bodiesAt (pen .step) (pathOf (now path)))) ⌝ }
+    ensures { λ r. ⌜ Begins pen (pathOf (now (path .entry))) (now (out .exit)) r ⌝ }
 {
     let first = first_stand(path);
     let mut w = first.walk;
     let mut at = first.at;
     let mut k = first.next;
     while k < n {
-        let s = w.step(out, at, t, vertex(path, k));
-        let on = s.walk;
+        let s = w.stride(out, at, pen, vertex(path, k));
         let next = k + 1;
         if out.len() < s.at {
-            return Begun {
-                within: Stand {
-                    walk: w,
-                    next: k,
-                    at,
-                },
-                past: Stand {
-                    walk: on,
-                    next,
-                    at: s.at,
-                },
+            return Stand {
+                walk: w,
+                next: k,
+                at,
             };
         }
-        w = on;
+        w = s.walk;
         at = s.at;
         k = next;
     }
-    let end = Stand {
+    Stand {
         walk: w,
         next: k,
         at,
-    };
-    Begun {
-        within: end,
-        past: end,
     }
 }
 

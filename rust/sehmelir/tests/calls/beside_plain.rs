@@ -257,21 +257,45 @@ fn every_short_room() {
     }
 }
 
-/// Draw keeps up to 1,024, 8,192 or 81,920 numbers while it counts. Circles
-/// within circles have 32 numbers each at grade 1: here what is drawn before
-/// the last of them comes to some circles less than draw keeps, to just as
-/// many numbers, and to more.
+/// Draw holds up to 1,024, 8,192, 32,768 or 131,072 numbers while it counts.
+/// Circles within circles have 32 numbers each at grade 1 and 208 at grade 4:
+/// here what is drawn before the last of them comes to some circles less than
+/// draw holds, to just as many numbers but for the last row, and to more.
 #[test]
-fn as_much_as_draw_keeps_and_more() {
-    for kept in [1_024, 8_192, 81_920] {
-        let full = kept / 32 + 1;
+fn as_much_as_draw_holds_and_more() {
+    for (held, grade, numbers) in [
+        (1_024, 1, 32),
+        (8_192, 1, 32),
+        (32_768, 1, 32),
+        (131_072, 4, 208),
+    ] {
+        let full = held / numbers + 1;
         for count in full - 2..=full + 2 {
             let circle = |place: usize| [0, 0, 20 * (count - place) as i32];
             let path: Path = (0..count).map(circle).collect();
-            let numbers = path.as_flattened();
-            for (length, reply) in [(32 * count, 0), (32 * count - 1, 5), (32 * count + 3, 0)] {
-                assert_eq!(draw(numbers, 1, length).reply, reply);
+            let needed = needed(plain::calls::draw(path.as_flattened(), grade, &mut []));
+            for (length, reply) in [(4 * needed, 0), (4 * needed - 1, 5), (4 * needed + 3, 0)] {
+                assert_eq!(draw(path.as_flattened(), grade, length).reply, reply);
             }
+        }
+    }
+}
+
+/// Of many vertices at fine grades draw holds whole arcs in a few numbers each.
+/// Where circles are small most arcs stand edge by edge, which is more than
+/// draw holds: the rest is counted, and drawn anew.
+#[test]
+fn holds_whole_arcs() {
+    for (count, grade) in [(248, 8), (249, 8), (900, 7), (1_800, 6), (4_096, 5), (4_096, 8)] {
+        for radius in [2, 30, 600] {
+            let vertex = |place: i32| {
+                let turn = place * place % 7;
+                [3 * radius * place, radius * turn, radius + turn]
+            };
+            let path: Path = (0..count).map(vertex).collect();
+            let needed = needed(plain::calls::draw(path.as_flattened(), grade, &mut []));
+            assert_eq!(draw(path.as_flattened(), grade, 4 * needed).reply, 0);
+            assert_eq!(draw(path.as_flattened(), grade, 4 * needed - 1).reply, 5);
         }
     }
 }
@@ -293,7 +317,7 @@ fn counts_by_leaps() {
 #[test]
 fn long_paths() {
     let mut maker = Maker::new(6);
-    for (count, grade) in [(4096, 1), (4096, 4), (300, 8)] {
+    for (count, grade) in [(4096, 1), (4096, 4), (300, 8), (2500, 6)] {
         let mut path = Path::new();
         while path.len() < count {
             path.extend(maker.path(40));

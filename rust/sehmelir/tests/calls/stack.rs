@@ -4,7 +4,7 @@ use sehmelir::{draw, keep, read, replace, Refusal};
 use std::thread::Builder;
 
 /// What draw may take, and some for the thread that calls it.
-const FOR_DRAW: usize = (336 + 32) * 1024;
+const FOR_DRAW: usize = (528 + 32) * 1024;
 
 /// What keep, read and replace may take, and as much for the thread.
 const FOR_OTHERS: usize = (256 + 32) * 1024;
@@ -17,7 +17,7 @@ fn is_at_most_what_is_said() {
         let vertices = (0..count).map(|place| [50 * place, 20 * (place % 3), 10 + place % 4]);
         vertices.flatten().collect()
     };
-    for (path, grade) in [(hedge(4096), 1), (hedge(40), 8)] {
+    for (path, grade) in [(hedge(4096), 1), (hedge(40), 8), (hedge(1000), 7)] {
         let vertices = path.len() / 3;
         let lent = path.clone();
         let edges = on_a_stack_of(FOR_DRAW, move || {

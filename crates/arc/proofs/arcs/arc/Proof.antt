@@ -3,14 +3,19 @@ use mathlib.Core.Path.{_≡_, sym, _∙_}
 use mathlib.Core.List.{_++_}
 use Prim.Native.Nat.{_<_}
 use borrow.Author.Needs.{needs}
-use Rattle.runs.proofs.Laws.{runs-none, runs-as, room-as}
-use Rattle.plane.specs.Vectors.{fromTo, squareOf}
+use Rattle.runs.proofs.Laws.{room-as}
+use Rattle.plane.specs.Vectors.{Near, fromTo, squareOf}
+use Rattle.plane.specs.Directions.{UnitLong}
 use Rattle.plane.proofs.Products.{bits}
 use Rattle.arc.specs.Edges.{edgeOf}
 use Rattle.arc.specs.Arcs.{ringOf, turnsOf, circleOf, arcOf}
+use Rattle.arc.specs.Bounds.{Turns}
 use Rattle.arc.proofs.Limits.{centre-near, radius-back, turns-within}
 use Rattle.arc.proofs.Rays.{about-near, short-told, not-empty-some, some-told, unit-told}
 use Rattle.arc.proofs.Cases.{arc-empty, arc-full, arc-swept, swept-turns}
+use Rattle.arc.proofs.Reach.{turns-reach}
+use Rattle.arc.proofs.Laid.{lays-none, lays-runs, lays-as}
+use Rattle.arc.proofs.Bows.{lays-may}
 use Rattle.arc.proofs.arcs.arc.Statement.{statement}
 use Rattle.arc.proofs.arcs.arc.Tie as tie
 
@@ -26,7 +31,7 @@ some : (c : tie.Else1) → let a = first c .args in (0 < squareOf (fromTo (a .c)
 some c = not-empty-some _ _ _ _ (sym (c .before .empty .ensures) ∙ c .if1 .left)
 
 -- the rule's last two cases
-full-arc : (c : tie.Then2) → let a = second (c .before) .args in arcOf (a .t) (a .c) (a .radius) (a .p) (a .q) (a .choice) ≡ circleOf (a .t) (a .c) (ringOf (fromTo (a .c) (a .p))) ++ edgeOf (a .p) (a .q)
+full-arc : (c : tie.Then2) → let a = second (c .before) .args in arcOf (a .pen .step) (a .c) (a .radius) (a .p) (a .q) (a .choice) ≡ circleOf (a .pen .step) (a .c) (ringOf (fromTo (a .c) (a .p))) ++ edgeOf (a .p) (a .q)
 full-arc c =
     let d = c .before .before in
     let b = d .before .before .before .before in
@@ -34,8 +39,8 @@ full-arc c =
     arc-full _ _ _ _ _ _ (r .before .from-to .ensures) (r .from-to2 .ensures) (b .before .before .sweep .ensures) (b .before .empty .ensures) (b .if1 .left)
     (d .before .direction .ensures) (d .direction2 .ensures) (c .before .full .ensures) (c .if2 .taken)
 
-turned-arc : (c : tie.Else2) → let a = second (c .before) .args in arcOf (a .t) (a .c) (a .radius) (a .p) (a .q) (a .choice)
-    ≡ turnsOf 1536 (record { step = a .t; centre = a .c; radius = bits (a .radius); to = a .q; toward = c .before .before .direction2 .result }) (c .before .before .before .direction .result) (a .p)
+turned-arc : (c : tie.Else2) → let a = second (c .before) .args in arcOf (a .pen .step) (a .c) (a .radius) (a .p) (a .q) (a .choice)
+    ≡ turnsOf 1536 (record { step = a .pen .step; centre = a .c; radius = bits (a .radius); to = a .q; toward = c .before .before .direction2 .result }) (c .before .before .before .direction .result) (a .p)
 turned-arc c =
     let d = c .before .before in
     let b = d .before .before .before .before in
@@ -57,7 +62,7 @@ empty-requires : tie.Need-empty-requires
 empty-requires c κs = search needs
 
 returns : tie.Need-returns
-returns c = runs-as (arc-empty _ _ _ _ _ _ (c .before .before .before .before .from-to .ensures) (c .before .before .before .from-to2 .ensures) (c .before .before .sweep .ensures) (c .before .empty .ensures) (c .if1 .taken)) runs-none
+returns c = lays-as (arc-empty _ _ _ _ _ _ (c .before .before .before .before .from-to .ensures) (c .before .before .before .from-to2 .ensures) (c .before .before .sweep .ensures) (c .before .empty .ensures) (c .if1 .taken)) lays-none
 
 measured-requires : tie.Need-measured-requires
 measured-requires c κs = (short-told (first c .pre .0 .3) (c .before .before .before .before .from-to .ensures), some-told (c .before .before .before .before .from-to .ensures) (some c .0))
@@ -86,22 +91,42 @@ same-length : tie.Need-same-length
 same-length c = search needs
 
 returns-2 : tie.Need-returns-2
-returns-2 c = runs-as (full-arc (c .before .before .before)) (c .before .ring .ensures)
+returns-2 c = lays-as (full-arc (c .before .before .before)) (c .before .ring .ensures)
 
-turns-requires : tie.Need-turns-requires
-turns-requires c κs =
-    let h = c .before .before .before .before .before .before .before .before .before .before .before .before .pre .0 in
-    let b = c .before .before .before .before .before .before .before in
+-- what it keeps while it turns, within the limits
+kept : (c : tie.Else2) → let a = second (c .before) .args in
+    Turns (record { step = a .pen .step; centre = a .c; radius = bits (a .radius); to = a .q; toward = c .before .before .direction2 .result }) × UnitLong (c .before .before .before .direction .result) × Near (a .p)
+kept c =
+    let h = second (c .before) .pre .0 in
+    let b = c .before .before .before .before .before .before in
     let s = some b in
-    let d = unit-told (b .before .before .before .before .from-to .ensures) (s .0) (c .before .before .before .before .direction .ensures) in
-    let e = unit-told (b .before .before .before .from-to2 .ensures) (s .1) (c .before .before .before .direction2 .ensures) in
-    (turns-within (h .0) (h .1) (h .2) (about-near (h .4) (h .1)) e, ((d, about-near (h .3) (h .1)), room-as (turned-arc (c .before)) (c .before .before .before .before .before .before .before .before .before .before .before .before .pre .1)))
+    let d = unit-told (b .before .before .before .before .from-to .ensures) (s .0) (c .before .before .before .direction .ensures) in
+    let e = unit-told (b .before .before .before .from-to2 .ensures) (s .1) (c .before .before .direction2 .ensures) in
+    (turns-within (h .0) (h .1) (h .2) (about-near (h .4) (h .1)) e, d, about-near (h .3) (h .1))
+
+fold-requires : tie.Need-fold-requires
+fold-requires c κs = let s = c .before .before .before in (kept s, room-as (turned-arc s) (c .before .before .before .before .before .before .before .before .before .before .before .before .before .before .pre .1))
 
 same-length-2 : tie.Need-same-length-2
 same-length-2 c = search needs
 
 returns-3 : tie.Need-returns-3
-returns-3 c = runs-as (turned-arc (c .before .before .before)) (c .before .turns .ensures)
+returns-3 c = lays-as (turned-arc (c .before .before .before .before .before)) (lays-may (c .before .before .before .if3 .taken) (c .before .fold .ensures))
+
+turns-requires : tie.Need-turns-requires
+turns-requires c κs =
+    let s = c .before .before .before in
+    let h = kept s in
+    (h .0, ((h .1, h .2), room-as (turned-arc s) (c .before .before .before .before .before .before .before .before .before .before .before .before .before .before .pre .1)))
+
+same-length-3 : tie.Need-same-length-3
+same-length-3 c = search needs
+
+returns-4 : tie.Need-returns-4
+returns-4 c =
+    let s = c .before .before .before .before .before in
+    let h = kept s in
+    lays-as (turned-arc s) (lays-runs (turns-reach 1536 _ _ _ (h .0) (h .1) (h .2)) (c .before .turns .ensures))
 
 pub arc-spec : {M : Type 1} → statement M
 arc-spec =
@@ -120,6 +145,9 @@ arc-spec =
     ring-requires
     same-length
     returns-2
-    turns-requires
+    fold-requires
     same-length-2
-    returns-3)
+    returns-3
+    turns-requires
+    same-length-3
+    returns-4)

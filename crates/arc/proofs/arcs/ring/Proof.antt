@@ -3,11 +3,12 @@ use mathlib.Core.Path.{_≡_}
 use borrow.Author.Needs.{needs}
 use mir.Syntax.{w64}
 use mir.Val.{toZ}
-use Rattle.runs.proofs.Laws.{runs-then, room-first, room-then}
+use Rattle.runs.proofs.Laws.{room-first}
 use Rattle.plane.specs.Vectors.{fromTo}
 use Rattle.arc.specs.Arcs.{ringOf}
 use Rattle.arc.proofs.Limits.{centre-near}
 use Rattle.arc.proofs.Rays.{about-near, short-told, ring-radius, ring-told}
+use Rattle.arc.proofs.Laid.{lays-edge, lays-then, room-past}
 use Rattle.arc.proofs.arcs.ring.Statement.{statement}
 use Rattle.arc.proofs.arcs.ring.Tie as tie
 
@@ -37,13 +38,15 @@ circle-requires c κs =
 edge-requires : tie.Need-edge-requires
 edge-requires c κs =
     let h = c .before .before .before .before .before .before .before .pre .0 in
-    ((about-near (h .2) (h .1), about-near (h .3) (h .1)), room-then _ (rw (radius (c .before .before .before .before)) at (c .before .before .circle .ensures)) (c .before .before .before .before .before .before .before .pre .1))
+    ((about-near (h .2) (h .1), about-near (h .3) (h .1)), room-past _ (rw (radius (c .before .before .before .before)) at (c .before .before .circle .ensures)) (c .before .before .before .before .before .before .before .pre .1))
 
 same-length : tie.Need-same-length
 same-length c = search needs
 
 returns : tie.Need-returns
-returns c = runs-then (rw (radius (c .before .before .before .before .before .before)) at (c .before .before .before .before .circle .ensures)) (c .before .edge .ensures)
+returns c =
+    let h = c .before .before .before .before .before .before .before .before .before .pre .0 in
+    lays-then (rw (radius (c .before .before .before .before .before .before)) at (c .before .before .before .before .circle .ensures)) (lays-edge (about-near (h .2) (h .1)) (about-near (h .3) (h .1)) (c .before .edge .ensures))
 
 pub ring-spec : {M : Type 1} → statement M
 ring-spec =

@@ -1,4 +1,5 @@
 -- `outline::drawing::draw_path` meets its contract: no vertices have no edges, and whatever own numbers are picked, the edges are the path's. Assumes nothing.
+use native.Mathlib.Omega.{arith}
 use borrow.Author.Needs.{needs}
 use Rattle.outline.proofs.PathChecks.{draws-none}
 use Rattle.outline.proofs.drawing.draw_path.Statement.{statement}
@@ -46,6 +47,21 @@ same-length-3 c = search needs
 returns-4 : tie.Need-returns-4
 returns-4 c = search needs
 
+folds-requires : tie.Need-folds-requires
+folds-requires c κs = search needs
+
+slice-aggregate-draw-through-4 : tie.Need-slice-aggregate-draw-through-4
+slice-aggregate-draw-through-4 c = search needs
+
+draw-through-requires-4 : tie.Need-draw-through-requires-4
+draw-through-requires-4 c κs = (c .before .before .before .before .before .before .before .before .pre, omega (arith, c .before .before .before .before .before .before .before .if1 .left), search needs)
+
+same-length-4 : tie.Need-same-length-4
+same-length-4 c = search needs
+
+returns-5 : tie.Need-returns-5
+returns-5 c = search needs
+
 pub draw-path-spec : {M : Type 1} → statement M
 draw-path-spec =
     tie.close
@@ -63,4 +79,9 @@ draw-path-spec =
     slice-aggregate-draw-through-3
     draw-through-requires-3
     same-length-3
-    returns-4)
+    returns-4
+    folds-requires
+    slice-aggregate-draw-through-4
+    draw-through-requires-4
+    same-length-4
+    returns-5)

@@ -1,10 +1,10 @@
--- `outline::drawing::draw_through` meets its contract: what the own numbers hold, copied, and the rest drawn from there on are the path's edges. Assumes nothing.
+-- `outline::drawing::draw_through` meets its contract: what the own numbers hold, put there, and the rest drawn from there on are the path's edges. Assumes nothing.
 use mathlib.Core.List.{[]}
 use native.Mathlib.Omega.{arith}
 use borrow.Author.Needs.{needs}
-use Rattle.runs.proofs.Written.{written-length}
 use Rattle.plane.proofs.Directions.{step-unit}
-use Rattle.variable_stroke.proofs.Stands.{along-room, along-end, along-whole, held-long, held-put}
+use Rattle.arc.proofs.ReadBack.{sizes-room}
+use Rattle.variable_stroke.proofs.Stands.{along-room, along-end, begun-along, begun-whole, begun-holds, begun-edgewise}
 use Rattle.outline.proofs.PathChecks.{walk-room, draws-short, draws-done}
 use Rattle.outline.proofs.drawing.draw_through.Statement.{statement}
 use Rattle.outline.proofs.drawing.draw_through.Tie as tie
@@ -17,29 +17,41 @@ begin-requires c κs =
     let f = c .before .before .pre .0 in
     ((f .count, f .within .inside, step-unit _ (c .before .step .ensures), c .before .before .pre .1), walk-room _ f (c .before .step .ensures))
 
+held-size-requires : tie.Need-held-size-requires
+held-size-requires c κs =
+    let h = c .before .before .begin .ensures in
+    (begun-holds h, begun-edgewise h, omega (arith, h .whole, c .before .before .before .before .before .pre .2))
+
+slice-aggregate-go-on : tie.Need-slice-aggregate-go-on
+slice-aggregate-go-on c = search needs
+
 go-on-requires : tie.Need-go-on-requires
 go-on-requires c κs =
-    let f = c .before .before .before .before .before .before .before .pre .0 in
-    let h = c .before .before .before .before .begin .ensures .past in
-    ((f .count, f .within .inside, step-unit _ (c .before .before .before .before .before .before .step .ensures), h .around, omega (arith, h .next, f .count)), along-room h (walk-room _ f (c .before .before .before .before .before .before .step .ensures)))
+    let f = c .before .before .before .before .before .before .before .before .pre .0 in
+    let h = c .before .before .before .before .before .begin .ensures in
+    let a = begun-along h (c .before .before .held-size .ensures .size _ (h .held) (h .sound) (h .numbers)) in
+    ((f .count, f .within .inside, step-unit _ (c .before .before .before .before .before .before .before .step .ensures), a .around, omega (arith, a .next, f .count)), along-room a (walk-room _ f (c .before .before .before .before .before .before .before .step .ensures)))
 
 same-length : tie.Need-same-length
 same-length c = search needs
 
 returns : tie.Need-returns
-returns c = draws-short _ (c .before .before .before .before .before .before .before .before .before .before .pre .0) (c .before .before .before .before .before .before .before .before .before .step .ensures) (along-end (c .before .before .before .before .before .before .before .begin .ensures .past) [] (c .before .before .go-on .ensures)) _ (c .if1 .taken)
+returns c =
+    let h = c .before .before .before .before .before .before .before .before .begin .ensures in
+    let a = begun-along h (c .before .before .before .before .before .held-size .ensures .size _ (h .held) (h .sound) (h .numbers)) in
+    draws-short _ (c .before .before .before .before .before .before .before .before .before .before .before .pre .0) (c .before .before .before .before .before .before .before .before .before .before .step .ensures) (along-end a [] (c .before .before .go-on .ensures)) _ (c .if1 .taken)
 
-copy-requires : tie.Need-copy-requires
-copy-requires c κs =
-    let h = c .before .before .before .before .before .before .before .before .before .begin .ensures in
-    let p = c .before .before .before .before .go-on .ensures in
-    (omega (arith, held-long h, written-length p), omega (arith, h .order, p .pos, c .before .before .if1 .left))
+put-held-requires : tie.Need-put-held-requires
+put-held-requires c κs =
+    let h = c .before .before .before .before .before .before .before .before .before .before .begin .ensures in
+    (step-unit _ (c .before .before .before .before .before .before .before .before .before .before .before .before .step .ensures), begun-holds h, begun-edgewise h, sizes-room _ (c .before .before .before .before .before .before .before .held-size .ensures) (omega (arith, c .before .before .before .before .go-on .ensures .pos, c .before .before .if1 .left)))
 
 go-on-requires-2 : tie.Need-go-on-requires-2
 go-on-requires-2 c κs =
-    let f = c .before .before .before .before .before .before .before .before .before .before .before .before .before .before .before .pre .0 in
-    let h = c .before .before .before .before .before .before .before .before .before .before .before .before .begin .ensures .within in
-    ((f .count, f .within .inside, step-unit _ (c .before .before .before .before .before .before .before .before .before .before .before .before .before .before .step .ensures), h .around, omega (arith, h .next, f .count)), along-room h (walk-room _ f (c .before .before .before .before .before .before .before .before .before .before .before .before .before .before .step .ensures)))
+    let f = c .before .before .before .before .before .before .before .before .before .before .before .before .before .before .before .before .pre .0 in
+    let h = c .before .before .before .before .before .before .before .before .before .before .before .before .before .begin .ensures in
+    let a = begun-along h (c .before .before .before .before .before .before .before .before .before .before .held-size .ensures .size _ (h .held) (h .sound) (h .numbers)) in
+    ((f .count, f .within .inside, step-unit _ (c .before .before .before .before .before .before .before .before .before .before .before .before .before .before .before .step .ensures), a .around, omega (arith, a .next, f .count)), along-room a (walk-room _ f (c .before .before .before .before .before .before .before .before .before .before .before .before .before .before .before .step .ensures)))
 
 same-length-2 : tie.Need-same-length-2
 same-length-2 c = search needs
@@ -49,10 +61,11 @@ same-length-3 c = search needs
 
 returns-2 : tie.Need-returns-2
 returns-2 c =
-    let h = c .before .before .before .before .before .before .before .before .before .before .before .before .before .before .begin .ensures in
-    let p = c .before .before .before .before .before .before .before .before .before .go-on .ensures in
-    let all = along-whole (h .within) (held-put h p (c .before .before .before .before .copy .ensures)) (c .before .go-on2 .ensures) in
-    draws-done _ (c .before .before .before .before .before .before .before .before .before .before .before .before .before .before .before .before .before .pre .0) (c .before .before .before .before .before .before .before .before .before .before .before .before .before .before .before .before .step .ensures) all (omega (arith, all .pos, along-end (h .past) [] p .pos, c .before .before .before .before .before .before .before .if1 .left))
+    let h = c .before .before .before .before .before .before .before .before .before .before .before .before .before .before .before .begin .ensures in
+    let e = c .before .before .before .before .before .before .before .before .before .before .before .before .held-size .ensures .size _ (h .held) (h .sound) (h .numbers) in
+    let a = begun-along h e in
+    let all = begun-whole h e (c .before .before .before .before .put-held .ensures .unfolds (h .held) (h .sound) (h .numbers)) (c .before .go-on2 .ensures) in
+    draws-done _ (c .before .before .before .before .before .before .before .before .before .before .before .before .before .before .before .before .before .before .pre .0) (c .before .before .before .before .before .before .before .before .before .before .before .before .before .before .before .before .before .step .ensures) all (omega (arith, all .pos, along-end a [] (c .before .before .before .before .before .before .before .before .before .go-on .ensures) .pos, c .before .before .before .before .before .before .before .if1 .left))
 
 pub draw-through-spec : {M : Type 1} → statement M
 draw-through-spec =
@@ -60,10 +73,12 @@ draw-through-spec =
     (tie.spec
     step-requires
     begin-requires
+    held-size-requires
+    slice-aggregate-go-on
     go-on-requires
     same-length
     returns
-    copy-requires
+    put-held-requires
     go-on-requires-2
     same-length-2
     same-length-3

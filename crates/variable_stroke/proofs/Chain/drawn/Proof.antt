@@ -1,6 +1,7 @@
 -- `variable_stroke::Chain::drawn` meets its contract: both sides, then the meeting. Assumes nothing.
 use borrow.Author.Needs.{needs}
-use Rattle.runs.proofs.Laws.{runs-as, runs-then, room-first, room-then, room-as}
+use Rattle.runs.proofs.Laws.{room-first, room-then, room-as}
+use Rattle.arc.proofs.Laid.{lays-edge, lays-as, lays-then}
 use Rattle.variable_stroke.proofs.CapsAndJoins.{left-reach, right-reach}
 use Rattle.variable_stroke.proofs.ChainSteps.{drawn-is}
 use Rattle.variable_stroke.proofs.Chain.drawn.Statement.{statement}
@@ -23,7 +24,7 @@ same-length : tie.Need-same-length
 same-length c = search needs
 
 returns : tie.Need-returns
-returns c = runs-as (drawn-is _ _ _) (runs-then (c .before .before .before .before .before .before .before .edge .ensures) (runs-then (c .before .before .before .before .edge2 .ensures) (c .before .meet .ensures)))
+returns c = lays-as (drawn-is _ _ _) (lays-then (lays-edge (left-reach (c .before .before .before .before .before .before .before .before .before .before .before .pre .0 .2) .b) (left-reach (c .before .before .before .before .before .before .before .before .before .before .before .pre .0 .2) .a) (c .before .before .before .before .before .before .before .edge .ensures)) (lays-then (lays-edge (right-reach (c .before .before .before .before .before .before .before .before .before .before .before .pre .0 .2) .a) (right-reach (c .before .before .before .before .before .before .before .before .before .before .before .pre .0 .2) .b) (c .before .before .before .before .edge2 .ensures)) (c .before .meet .ensures)))
 
 pub drawn-spec : {M : Type 1} → statement M
 drawn-spec = tie.close (tie.spec edge-requires edge-requires-2 meet-requires same-length returns)

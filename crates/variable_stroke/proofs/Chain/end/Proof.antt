@@ -1,6 +1,7 @@
 -- `variable_stroke::Chain::end` meets its contract: the end cap of the last section, or the circle of a lone vertex. Assumes nothing.
 use borrow.Author.Needs.{needs}
-use Rattle.runs.proofs.Laws.{runs-as, room-as}
+use Rattle.runs.proofs.Laws.{room-as}
+use Rattle.arc.proofs.Laid.{lays-as}
 use Rattle.variable_stroke.proofs.ChainSteps.{finish-held, finish-none, held-around}
 use Rattle.variable_stroke.proofs.Chain.end.Statement.{statement}
 use Rattle.variable_stroke.proofs.Chain.end.Tie as tie
@@ -21,13 +22,13 @@ same-length : tie.Need-same-length
 same-length c = search needs
 
 returns : tie.Need-returns
-returns c = runs-as (finish-held _ _ _ (c .before .before .before .before .last .given .1)) (c .before .end-cap .ensures)
+returns c = lays-as (finish-held _ _ _ (c .before .before .before .before .last .given .1)) (c .before .end-cap .ensures)
 
 same-length-2 : tie.Need-same-length-2
 same-length-2 c = search needs
 
 returns-2 : tie.Need-returns-2
-returns-2 c = runs-as (finish-none _ _ _ (c .before .before .before .enum-told .given .1)) (c .before .lone .ensures)
+returns-2 c = lays-as (finish-none _ _ _ (c .before .before .before .enum-told .given .1)) (c .before .lone .ensures)
 
 pub end-spec : {M : Type 1} → statement M
 end-spec =

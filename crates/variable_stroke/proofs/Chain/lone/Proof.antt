@@ -1,6 +1,7 @@
 -- `variable_stroke::Chain::lone` meets its contract: no circle where a step was marked or both caps are Butt. Assumes nothing.
 use borrow.Author.Needs.{needs}
-use Rattle.runs.proofs.Laws.{runs-none, runs-as, room-as}
+use Rattle.runs.proofs.Laws.{room-as}
+use Rattle.arc.proofs.Laid.{lays-none, lays-as}
 use Rattle.variable_stroke.proofs.CapsAndJoins.{radius-told}
 use Rattle.variable_stroke.proofs.Contacts.{centre-is}
 use Rattle.variable_stroke.proofs.ChainSteps.{lone-marked, lone-butt, lone-circle}
@@ -8,13 +9,13 @@ use Rattle.variable_stroke.proofs.Chain.lone.Statement.{statement}
 use Rattle.variable_stroke.proofs.Chain.lone.Tie as tie
 
 returns : tie.Need-returns
-returns c = runs-as (lone-marked _ _ _ (c .if1 .taken)) runs-none
+returns c = lays-as (lone-marked _ _ _ (c .if1 .taken)) lays-none
 
 both-butt-requires : tie.Need-both-butt-requires
 both-butt-requires c κs = search needs
 
 returns-2 : tie.Need-returns-2
-returns-2 c = runs-as (lone-butt _ _ _ (c .before .before .if1 .left) (c .before .both-butt .ensures) (c .if2 .taken)) runs-none
+returns-2 c = lays-as (lone-butt _ _ _ (c .before .before .if1 .left) (c .before .both-butt .ensures) (c .if2 .taken)) lays-none
 
 centre-requires : tie.Need-centre-requires
 centre-requires c κs = search needs
@@ -29,7 +30,7 @@ same-length : tie.Need-same-length
 same-length c = search needs
 
 returns-3 : tie.Need-returns-3
-returns-3 c = runs-as (lone-circle _ _ _ (search needs) (c .before .before .before .before .before .before .before .if1 .left) (c .before .before .before .before .before .before .both-butt .ensures) (c .before .before .before .before .before .if2 .left) (c .before .before .before .centre .ensures)) (c .before .circle .ensures)
+returns-3 c = lays-as (lone-circle _ _ _ (search needs) (c .before .before .before .before .before .before .before .if1 .left) (c .before .before .before .before .before .before .both-butt .ensures) (c .before .before .before .before .before .if2 .left) (c .before .before .before .centre .ensures)) (c .before .circle .ensures)
 
 pub lone-spec : {M : Type 1} → statement M
 lone-spec =

@@ -1,6 +1,7 @@
 -- `variable_stroke::Chain::meet` meets its contract: a join to the last section, or the start cap. Assumes nothing.
 use borrow.Author.Needs.{needs}
-use Rattle.runs.proofs.Laws.{runs-as, room-as}
+use Rattle.runs.proofs.Laws.{room-as}
+use Rattle.arc.proofs.Laid.{lays-as}
 use Rattle.variable_stroke.proofs.ChainSteps.{meet-held, meet-none, held-around}
 use Rattle.variable_stroke.proofs.Chain.meet.Statement.{statement}
 use Rattle.variable_stroke.proofs.Chain.meet.Tie as tie
@@ -21,13 +22,13 @@ same-length : tie.Need-same-length
 same-length c = search needs
 
 returns : tie.Need-returns
-returns c = runs-as (meet-held _ _ _ _ (c .before .before .before .before .last .given .1)) (c .before .join .ensures)
+returns c = lays-as (meet-held _ _ _ _ (c .before .before .before .before .last .given .1)) (c .before .join .ensures)
 
 same-length-2 : tie.Need-same-length-2
 same-length-2 c = search needs
 
 returns-2 : tie.Need-returns-2
-returns-2 c = runs-as (meet-none _ _ _ _ (c .before .before .before .enum-told .given .1)) (c .before .start-cap .ensures)
+returns-2 c = lays-as (meet-none _ _ _ _ (c .before .before .before .enum-told .given .1)) (c .before .start-cap .ensures)
 
 pub meet-spec : {M : Type 1} → statement M
 meet-spec =

@@ -1,7 +1,8 @@
 -- `variable_stroke::Walk::drawn` meets its contract: leaving, then the section drawn on. Assumes nothing.
 use mathlib.Core.Path.{refl}
 use borrow.Author.Needs.{needs}
-use Rattle.runs.proofs.Laws.{room-first, room-then, room-as}
+use Rattle.runs.proofs.Laws.{room-first, room-as}
+use Rattle.arc.proofs.Laid.{room-past}
 use Rattle.variable_stroke.proofs.ChainSteps.{emitted-drawn, leave-around, walk-drawn}
 use Rattle.variable_stroke.proofs.Steps.{drawn-whole}
 use Rattle.variable_stroke.proofs.Contacts.{section-around}
@@ -19,7 +20,7 @@ step-requires c κs =
     let h = c .before .before .before .before .before .before .before .pre .0 in
     let l = c .before .before .before .before .leave .ensures in
     let e = c .before .section .ensures in
-    ((h .0, leave-around _ _ (h .1) (l .chain), rw e (section-around (h .1 .at) (h .2) (drawn-whole _ _ (h .3)))), room-then _ (l .made) (room-as (emitted-drawn _ _ _ (h .3) (l .chain) e) (c .before .before .before .before .before .before .before .pre .1)))
+    ((h .0, leave-around _ _ (h .1) (l .chain), rw e (section-around (h .1 .at) (h .2) (drawn-whole _ _ (h .3)))), room-past _ (l .made) (room-as (emitted-drawn _ _ _ (h .3) (l .chain) e) (c .before .before .before .before .before .before .before .pre .1)))
 
 same-length : tie.Need-same-length
 same-length c = search needs

@@ -1,6 +1,7 @@
 -- `variable_stroke::builder_join::arc_about` meets its contract: the arc about the centre, at the radius. Assumes nothing.
 use borrow.Author.Needs.{needs}
-use Rattle.runs.proofs.Laws.{runs-as, room-as}
+use Rattle.runs.proofs.Laws.{room-as}
+use Rattle.arc.proofs.Laid.{lays-as}
 use Rattle.variable_stroke.proofs.CapsAndJoins.{radius-told, arc-about-is}
 use Rattle.variable_stroke.proofs.Contacts.{centre-is}
 use Rattle.variable_stroke.proofs.builder_join.arc_about.Statement.{statement}
@@ -19,7 +20,7 @@ same-length : tie.Need-same-length
 same-length c = search needs
 
 returns : tie.Need-returns
-returns c = runs-as (arc-about-is _ _ _ _ _ (search needs) (c .before .before .before .centre .ensures)) (c .before .arc .ensures)
+returns c = lays-as (arc-about-is _ _ _ _ _ (search needs) (c .before .before .before .centre .ensures)) (c .before .arc .ensures)
 
 pub arc-about-spec : {M : Type 1} → statement M
 arc-about-spec = tie.close (tie.spec centre-requires arc-requires same-length returns)

@@ -1,6 +1,7 @@
 -- `variable_stroke::builder_join::end_cap` meets its contract: one law for each cap. Assumes nothing.
 use borrow.Author.Needs.{needs}
-use Rattle.runs.proofs.Laws.{runs-as, room-as}
+use Rattle.runs.proofs.Laws.{room-as}
+use Rattle.arc.proofs.Laid.{lays-edge, lays-as}
 use Rattle.variable_stroke.proofs.CapsAndJoins.{contact-near, end-butt, end-round}
 use Rattle.variable_stroke.proofs.builder_join.end_cap.Statement.{statement}
 use Rattle.variable_stroke.proofs.builder_join.end_cap.Tie as tie
@@ -28,13 +29,13 @@ same-length : tie.Need-same-length
 same-length c = search needs
 
 returns : tie.Need-returns
-returns c = runs-as (end-butt _ _ (c .before .before .before .enum-told .given .1)) (c .before .edge .ensures)
+returns c = lays-as (end-butt _ _ (c .before .before .before .enum-told .given .1)) (lays-edge (contact-near (c .before .before .before .before .before .before .before .before .pre .0 .1 .b) (c .before .before .before .before .before .before .before .before .pre .0 .1 .right-b)) (contact-near (c .before .before .before .before .before .before .before .before .pre .0 .1 .b) (c .before .before .before .before .before .before .before .before .pre .0 .1 .left-b)) (c .before .edge .ensures))
 
 same-length-2 : tie.Need-same-length-2
 same-length-2 c = search needs
 
 returns-2 : tie.Need-returns-2
-returns-2 c = runs-as (end-round _ _ (c .before .before .before .before .enum-told2 .given .1) (c .before .before .end-choice .ensures)) (c .before .arc-about .ensures)
+returns-2 c = lays-as (end-round _ _ (c .before .before .before .before .enum-told2 .given .1) (c .before .before .end-choice .ensures)) (c .before .arc-about .ensures)
 
 pub end-cap-spec : {M : Type 1} → statement M
 end-cap-spec =

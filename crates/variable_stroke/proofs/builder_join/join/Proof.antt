@@ -1,6 +1,7 @@
 -- `variable_stroke::builder_join::join` meets its contract: about one centre left and then right, else the gap. Assumes nothing.
 use borrow.Author.Needs.{needs}
-use Rattle.runs.proofs.Laws.{runs-as, runs-then, room-first, room-then, room-as}
+use Rattle.runs.proofs.Laws.{room-first, room-as}
+use Rattle.arc.proofs.Laid.{lays-as, lays-then, room-past}
 use Rattle.variable_stroke.proofs.CapsAndJoins.{centres-told, join-met, join-gap}
 use Rattle.variable_stroke.proofs.builder_join.join.Statement.{statement}
 use Rattle.variable_stroke.proofs.builder_join.join.Tie as tie
@@ -22,13 +23,13 @@ left-join-requires c κs =
 right-join-requires : tie.Need-right-join-requires
 right-join-requires c κs =
     let e = centres-told _ _ (c .before .before .before .before .before .before .before .centre .ensures) (c .before .before .before .before .before .before .centre2 .ensures) (c .before .before .before .before .before .same .ensures) (c .before .before .before .before .if1 .taken) in
-    ((c .before .before .before .before .before .before .before .before .pre .0 .0, c .before .before .before .before .before .before .before .before .pre .0 .1, c .before .before .before .before .before .before .before .before .pre .0 .2, e), room-then _ (c .before .before .left-join .ensures) (room-as (join-met _ _ _ e) (c .before .before .before .before .before .before .before .before .pre .1)))
+    ((c .before .before .before .before .before .before .before .before .pre .0 .0, c .before .before .before .before .before .before .before .before .pre .0 .1, c .before .before .before .before .before .before .before .before .pre .0 .2, e), room-past _ (c .before .before .left-join .ensures) (room-as (join-met _ _ _ e) (c .before .before .before .before .before .before .before .before .pre .1)))
 
 same-length : tie.Need-same-length
 same-length c = search needs
 
 returns : tie.Need-returns
-returns c = runs-as (join-met _ _ _ (centres-told _ _ (c .before .before .before .before .before .before .before .before .before .centre .ensures) (c .before .before .before .before .before .before .before .before .centre2 .ensures) (c .before .before .before .before .before .before .before .same .ensures) (c .before .before .before .before .before .before .if1 .taken))) (runs-then (c .before .before .before .before .left-join .ensures) (c .before .right-join .ensures))
+returns c = lays-as (join-met _ _ _ (centres-told _ _ (c .before .before .before .before .before .before .before .before .before .centre .ensures) (c .before .before .before .before .before .before .before .before .centre2 .ensures) (c .before .before .before .before .before .before .before .same .ensures) (c .before .before .before .before .before .before .if1 .taken))) (lays-then (c .before .before .before .before .left-join .ensures) (c .before .right-join .ensures))
 
 gap-requires : tie.Need-gap-requires
 gap-requires c κs = (c .before .before .before .before .before .pre .0, room-as (join-gap _ _ _ (centres-told _ _ (c .before .before .before .before .centre .ensures) (c .before .before .before .centre2 .ensures) (c .before .before .same .ensures) (c .before .if1 .left))) (c .before .before .before .before .before .pre .1))
@@ -37,7 +38,7 @@ same-length-2 : tie.Need-same-length-2
 same-length-2 c = search needs
 
 returns-2 : tie.Need-returns-2
-returns-2 c = runs-as (join-gap _ _ _ (centres-told _ _ (c .before .before .before .before .before .before .centre .ensures) (c .before .before .before .before .before .centre2 .ensures) (c .before .before .before .before .same .ensures) (c .before .before .before .if1 .left))) (c .before .gap .ensures)
+returns-2 c = lays-as (join-gap _ _ _ (centres-told _ _ (c .before .before .before .before .before .before .centre .ensures) (c .before .before .before .before .before .centre2 .ensures) (c .before .before .before .before .same .ensures) (c .before .before .before .if1 .left))) (c .before .gap .ensures)
 
 pub join-spec : {M : Type 1} → statement M
 join-spec =

@@ -1,6 +1,7 @@
 -- `variable_stroke::builder_join::left_join` meets its contract: an arc where it turns, else an edge. Assumes nothing.
 use borrow.Author.Needs.{needs}
-use Rattle.runs.proofs.Laws.{runs-as, room-as}
+use Rattle.runs.proofs.Laws.{room-as}
+use Rattle.arc.proofs.Laid.{lays-edge, lays-as}
 use Rattle.variable_stroke.proofs.CapsAndJoins.{contact-near, about-shared-left, left-arc, left-edge}
 use Rattle.variable_stroke.proofs.builder_join.left_join.Statement.{statement}
 use Rattle.variable_stroke.proofs.builder_join.left_join.Tie as tie
@@ -17,7 +18,7 @@ same-length : tie.Need-same-length
 same-length c = search needs
 
 returns : tie.Need-returns
-returns c = runs-as (left-arc _ _ _ (c .before .before .before .before .left-turns .ensures) (c .before .before .before .if1 .taken)) (c .before .arc-about .ensures)
+returns c = lays-as (left-arc _ _ _ (c .before .before .before .before .left-turns .ensures) (c .before .before .before .if1 .taken)) (c .before .arc-about .ensures)
 
 edge-requires : tie.Need-edge-requires
 edge-requires c κs =
@@ -28,7 +29,7 @@ same-length-2 : tie.Need-same-length-2
 same-length-2 c = search needs
 
 returns-2 : tie.Need-returns-2
-returns-2 c = runs-as (left-edge _ _ _ (c .before .before .before .before .left-turns .ensures) (c .before .before .before .if1 .left)) (c .before .edge .ensures)
+returns-2 c = lays-as (left-edge _ _ _ (c .before .before .before .before .left-turns .ensures) (c .before .before .before .if1 .left)) (lays-edge (contact-near (c .before .before .before .before .before .before .before .before .pre .0 .2 .a) (c .before .before .before .before .before .before .before .before .pre .0 .2 .left-a)) (contact-near (c .before .before .before .before .before .before .before .before .pre .0 .1 .b) (c .before .before .before .before .before .before .before .before .pre .0 .1 .left-b)) (c .before .edge .ensures))
 
 pub left-join-spec : {M : Type 1} → statement M
 left-join-spec =

@@ -1,6 +1,7 @@
 -- `variable_stroke::builder_join::start_cap` meets its contract: one law for each cap. Assumes nothing.
 use borrow.Author.Needs.{needs}
-use Rattle.runs.proofs.Laws.{runs-as, room-as}
+use Rattle.runs.proofs.Laws.{room-as}
+use Rattle.arc.proofs.Laid.{lays-edge, lays-as}
 use Rattle.variable_stroke.proofs.CapsAndJoins.{contact-near, start-butt, start-round}
 use Rattle.variable_stroke.proofs.builder_join.start_cap.Statement.{statement}
 use Rattle.variable_stroke.proofs.builder_join.start_cap.Tie as tie
@@ -28,13 +29,13 @@ same-length : tie.Need-same-length
 same-length c = search needs
 
 returns : tie.Need-returns
-returns c = runs-as (start-butt _ _ (c .before .before .before .enum-told .given .1)) (c .before .edge .ensures)
+returns c = lays-as (start-butt _ _ (c .before .before .before .enum-told .given .1)) (lays-edge (contact-near (c .before .before .before .before .before .before .before .before .pre .0 .1 .a) (c .before .before .before .before .before .before .before .before .pre .0 .1 .left-a)) (contact-near (c .before .before .before .before .before .before .before .before .pre .0 .1 .a) (c .before .before .before .before .before .before .before .before .pre .0 .1 .right-a)) (c .before .edge .ensures))
 
 same-length-2 : tie.Need-same-length-2
 same-length-2 c = search needs
 
 returns-2 : tie.Need-returns-2
-returns-2 c = runs-as (start-round _ _ (c .before .before .before .before .enum-told2 .given .1) (c .before .before .start-choice .ensures)) (c .before .arc-about .ensures)
+returns-2 c = lays-as (start-round _ _ (c .before .before .before .before .enum-told2 .given .1) (c .before .before .start-choice .ensures)) (c .before .arc-about .ensures)
 
 pub start-cap-spec : {M : Type 1} → statement M
 start-cap-spec =

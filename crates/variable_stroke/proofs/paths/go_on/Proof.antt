@@ -10,7 +10,7 @@ use Rattle.runs.specs.Runs.{put}
 use Rattle.variable_stroke.specs.Bounds.{AroundWalk}
 use Rattle.variable_stroke.specs.Paths.{pathOf, bodiesFrom, joined}
 use Rattle.variable_stroke.proofs.PathWalk.{edges-step, edges-end}
-use Rattle.variable_stroke.proofs.Stands.{next-inside, next-room, stepped-around}
+use Rattle.variable_stroke.proofs.Stands.{next-inside, next-room, next-walk}
 use Rattle.variable_stroke.proofs.paths.go_on.Statement.{statement}
 use Rattle.variable_stroke.proofs.paths.go_on.Tie as tie
 
@@ -32,7 +32,7 @@ step-requires c κs =
     let p = pathOf (c .before .before .before .before .before .args .path .now) in
     let h = c .before .before .before .loop .inv in
     let l : c .before .before .before .loop .k < length p = omega (arith, c .before .before .before .before .before .pre .0 .0, c .before .before .loop-test .taken) in
-    ((c .before .before .before .before .before .pre .0 .2, h .1, next-inside p (c .before .before .before .loop .k) (c .before .before .before .before .before .pre .0 .1) l (c .before .vertex .ensures)), next-room _ p (c .before .before .before .before .before .pre .0 .1) _ (c .before .before .before .loop .k) l (c .before .vertex .ensures) (onward-room (h .2) (c .before .before .before .before .before .pre .1)))
+    ((c .before .before .before .before .before .pre .0 .2, h .1, next-inside p (c .before .before .before .loop .k) (c .before .before .before .before .before .pre .0 .1) l (c .before .vertex .ensures)), next-room p _ (c .before .before .before .loop .k) l (c .before .vertex .ensures) _ (onward-room (h .2) (c .before .before .before .before .before .pre .1)))
 
 add-k : tie.Need-add-k Inv-loop μ-loop
 add-k c = omega arith
@@ -47,7 +47,7 @@ loop-again c =
     let b = c .before .before .before .before .vertex .ensures in
     let s = c .before .before .step .ensures in
     let l : c .before .before .before .before .before .before .loop .k < length p = omega (arith, c .before .before .before .before .before .before .before .before .pre .0 .0, c .before .before .before .before .before .loop-test .taken) in
-    (omega arith, stepped-around _ p (c .before .before .before .before .before .before .before .before .pre .0 .1) _ (c .before .before .before .before .before .before .loop .k) l b s (h .1), onward-step (onward-as (edges-step _ p (c .before .before .before .before .before .before .loop .k) _ l b (s .walk)) (h .2)) (s .made))
+    (omega arith, next-walk p _ (c .before .before .before .before .before .before .loop .k) l b (c .before .before .before .before .before .before .before .before .pre .0 .1) (s .walk) (h .1), onward-step (onward-as (edges-step _ p (c .before .before .before .before .before .before .loop .k) _ l b (s .walk)) (h .2)) (s .made))
 
 close-requires : tie.Need-close-requires Inv-loop μ-loop
 close-requires c κs =
