@@ -286,7 +286,14 @@ fn as_much_as_draw_holds_and_more() {
 /// draw holds: the rest is counted, and drawn anew.
 #[test]
 fn holds_whole_arcs() {
-    for (count, grade) in [(248, 8), (249, 8), (900, 7), (1_800, 6), (4_096, 5), (4_096, 8)] {
+    for (count, grade) in [
+        (248, 8),
+        (249, 8),
+        (900, 7),
+        (1_800, 6),
+        (4_096, 5),
+        (4_096, 8),
+    ] {
         for radius in [2, 30, 600] {
             let vertex = |place: i32| {
                 let turn = place * place % 7;
@@ -313,16 +320,38 @@ fn counts_by_leaps() {
     }
 }
 
+/// The same of paths at many scales. `PATHS` in the environment is how many, if
+/// they should be more than a few.
+#[test]
+fn holds_whole_arcs_of_any_path() {
+    let paths = std::env::var("PATHS").map_or(60, |count| count.parse().unwrap());
+    let mut maker = Maker::new(9);
+    for _ in 0..paths {
+        let (grade, least) = maker.pick(&[(5, 1_639), (6, 911), (7, 482), (8, 249)]);
+        let count = least + maker.index_below(900);
+        let path = long_path(&mut maker, count);
+        let needed = needed(plain::calls::draw(path.as_flattened(), grade, &mut []));
+        assert_eq!(draw(path.as_flattened(), grade, 4 * needed).reply, 0);
+        assert_eq!(draw(path.as_flattened(), grade, 4 * needed - 1).reply, 5);
+    }
+}
+
+/// A path of so many vertices: many short ones after one another.
+fn long_path(maker: &mut Maker, count: usize) -> Path {
+    let mut path = Path::new();
+    while path.len() < count {
+        path.extend(maker.path(40));
+    }
+    path.truncate(count);
+    path
+}
+
 /// As many vertices as there may be, and the finest grade.
 #[test]
 fn long_paths() {
     let mut maker = Maker::new(6);
     for (count, grade) in [(4096, 1), (4096, 4), (300, 8), (2500, 6)] {
-        let mut path = Path::new();
-        while path.len() < count {
-            path.extend(maker.path(40));
-        }
-        path.truncate(count);
+        let path = long_path(&mut maker, count);
         let numbers = path.as_flattened();
         let edges = needed(plain::calls::draw(numbers, grade, &mut []));
         assert_eq!(draw(numbers, grade, 4 * edges).reply, 0);

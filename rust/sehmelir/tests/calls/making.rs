@@ -22,6 +22,10 @@ impl Maker {
         self.random.chance(percent)
     }
 
+    pub fn pick<T: Copy>(&mut self, choices: &[T]) -> T {
+        self.random.pick(choices)
+    }
+
     fn within(&mut self, side: i64, radius: i64) -> [i32; 3] {
         let random = &mut self.random;
         [(-side, side), (-side, side), (0, radius)]
