@@ -7,23 +7,25 @@ use lib.IntN.{ℤ}
 use lib.ListN.{length, drop, length-append, take-append-drop}
 use lib.Seq.{drop-drop, drop-append-seam, length-take-le}
 use Rattle.runs.specs.Runs.{spread, Runs, Room, put}
-use Rattle.runs.proofs.Laws.{spread-append, runs-none}
+use Rattle.runs.proofs.Laws.{spread-append, runs-none, runs-then}
 use Rattle.runs.proofs.Onward.{Onward, onward-start, onward-step, onward-as, onward-done, onward-pos}
-use Rattle.runs.proofs.Written.{onward-length}
-use Rattle.plane.specs.Directions.{UnitLong, rotatedOf, scaledOf}
+use Rattle.runs.proofs.Written.{written-length, onward-length}
 use Rattle.plane.specs.Vectors.{Near}
+use Rattle.plane.specs.Directions.{UnitLong, rotatedOf, scaledOf, swingOf, headingOf, Swings}
 use Rattle.plane.proofs.Products.{bits}
 use Rattle.plane.specs.declared.Point.{Point}
 use Rattle.plane.specs.declared.Vector.{Vector}
-use Rattle.arc.specs.Edges.{edgeNumbers}
+use Rattle.plane.specs.declared.rotation.Swing.{Swing}
+use Rattle.arc.specs.Edges.{edgeNumbers, pointNumbers}
 use Rattle.arc.specs.Bounds.{Reach}
 use Rattle.arc.specs.Folds.{bowEdges, edgesIn, foldNumbers, SoundBow, Sound, AllSound, Holds, RoomFor, Stands, Reads, sizeOf, Sizes, Unfolds}
 use Rattle.arc.specs.declared.Edge.{Edge}
 use Rattle.arc.specs.declared.Bow.{Bow}
 use Rattle.arc.specs.declared.Fold.{Fold}
 use Rattle.arc.specs.declared.Fold.the-variants.{Straight, Bent}
-use Rattle.arc.proofs.Limits.{point-is, point-reach, next-unit}
-use Rattle.arc.proofs.ReadBack.{bow-size, fold-size, folds-size, folds-some, same-folds, sizes-most, sizesOf}
+use Rattle.arc.proofs.Limits.{point-is, point-reach, swing-told, swing-unit}
+use Rattle.arc.proofs.ReadBack.{fold-size, folds-size, folds-some, same-folds, sizes-most, sizesOf}
+use Rattle.arc.proofs.Stored.{point-past}
 
 -- ---- fold by fold
 
@@ -183,54 +185,95 @@ module _ {t : Vector} {l : List ℤ} {m : ℕ} {l₀ : List ℤ} where
             let s = left-step (c .rest) (c .left) k r in
             rw d (record { holds = c .holds; rest = s .tail; left = s .left; room = c .room; onward = onward-step unfolding-on p })
 
--- ---- an arc's edges
+-- ---- an arc's edges, point by point
 
-module _ (t : Vector) (c : Point) (r : ℤ) (q : Point) (d : Vector) (p : Point) where
-  bow-end : (n : ℕ) → n ≤ 0 → bowEdges n t c r q d p ≡ record { a = p; b = q } ∷ []
-  unfolding bowEdges
-  bow-end zero h = refl
-  bow-end (suc n) h = absurd (omega arith)
+-- what is left to write past its first point: n points, to the first of which the swing s comes, each as an edge's end and the next one's start;
+-- and then q
+unfoldable pub restPoints : ℕ → Vector → Point → ℤ → Point → Swing → List Point
+restPoints zero t c r q s = q ∷ []
+restPoints (suc n) t c r q s =
+    let d = headingOf s in
+    let x = scaledOf c r d in
+    x ∷ x ∷ restPoints n t c r q (swingOf t d)
 
-  bow-go : (n : ℕ) {e : Vector} {x : Point} → 0 < n → e ≡ rotatedOf t d → x ≡ scaledOf c r e → bowEdges n t c r q d p ≡ record { a = p; b = x } ∷ bowEdges (n - 1) t c r q e x
-  unfolding bowEdges
-  bow-go zero h i k = absurd (omega arith)
-  bow-go (suc n) h i k = let m : suc n - 1 ≡ n = omega arith in rw (k, i, m) refl
+-- with its first point those are the numbers of its edges
+bow-points : (n : ℕ) (t : Vector) (c : Point) (r : ℤ) (q : Point) (d : Vector) (p : Point) → spread edgeNumbers (bowEdges n t c r q d p) ≡ spread pointNumbers (p ∷ restPoints n t c r q (swingOf t d))
+unfolding spread edgeNumbers pointNumbers bowEdges restPoints rotatedOf swingOf headingOf
+bow-points zero t c r q d p = refl
+bow-points (suc n) t c r q d p =
+    let next = rotatedOf t d in
+    let x = scaledOf c r next in
+    ap (λ (zs : List ℤ). p .x ∷ p .y ∷ x .x ∷ x .y ∷ zs) (bow-points n t c r q next x)
 
--- k rotations are left, from the direction d and the point p on, of k₀ from d₀ and p₀ on
-pub record Bowing (t : Vector) (b : Bow) (l₀ : List ℤ) (a₀ k₀ : ℕ) (d₀ : Vector) (p₀ : Point) (l : List ℤ) (a k : ℕ) (d : Vector) (p : Point) : Type 0 where
-  pub onward : Onward put edgeNumbers l₀ a₀ (bowEdges k₀ t (b .centre) (b .radius) (b .to) d₀ p₀) l a (bowEdges k t (b .centre) (b .radius) (b .to) d p)
-  pub unit : UnitLong d
-  pub near : Near p
+module _ (t : Vector) (c : Point) (r : ℤ) (q : Point) where
+  rest-size : (n : ℕ) (s : Swing) → length (spread pointNumbers (restPoints n t c r q s)) ≡ 4 * n + 2
+  unfolding spread pointNumbers restPoints
+  rest-size zero s = refl
+  rest-size (suc n) s = omega (arith, rest-size n (swingOf t (headingOf s)))
 
-module _ {t : Vector} {b : Bow} {l₀ : List ℤ} {a₀ k₀ : ℕ} {d₀ : Vector} {p₀ : Point} where
-  pub bowing-start : UnitLong d₀ → Near p₀ → Bowing t b l₀ a₀ k₀ d₀ p₀ l₀ a₀ k₀ d₀ p₀
-  bowing-start h k = record { onward = onward-start; unit = h; near = k }
+  rest-end : (n : ℕ) (s : Swing) → n ≤ 0 → restPoints n t c r q s ≡ q ∷ []
+  unfolding restPoints
+  rest-end zero s h = refl
+  rest-end (suc n) s h = absurd (omega arith)
 
-  module _ {l : List ℤ} {a k : ℕ} {d : Vector} {p : Point} (w : Bowing t b l₀ a₀ k₀ d₀ p₀ l a k d p) where
+  rest-go : (n : ℕ) (s : Swing) {d : Vector} {x : Point} {s₁ : Swing} → 0 < n → d ≡ headingOf s → x ≡ scaledOf c r d → s₁ ≡ swingOf t d → restPoints n t c r q s ≡ x ∷ x ∷ restPoints (n - 1) t c r q s₁
+  unfolding restPoints
+  rest-go zero s h i k l = absurd (omega arith)
+  rest-go (suc n) s h i k l = let m : suc n - 1 ≡ n = omega arith in rw (l, k, i, m) refl
+
+-- k rotations are left, the next of them by the swing s, of k₀ from s₀ on
+pub record Bowing (t : Vector) (b : Bow) (l₀ : List ℤ) (a₀ k₀ : ℕ) (s₀ : Swing) (l : List ℤ) (a k : ℕ) (s : Swing) : Type 0 where
+  pub onward : Onward put pointNumbers l₀ a₀ (restPoints k₀ t (b .centre) (b .radius) (b .to) s₀) l a (restPoints k t (b .centre) (b .radius) (b .to) s)
+  pub reach : Swings s
+  pub unit : UnitLong (headingOf s)
+
+module _ {t : Vector} {b : Bow} {l₀ : List ℤ} {a₀ k₀ : ℕ} {s₀ : Swing} where
+  pub bowing-start : UnitLong t → SoundBow b → s₀ ≡ swingOf t (b .direction) → Bowing t b l₀ a₀ k₀ s₀ l₀ a₀ k₀ s₀
+  bowing-start h k e = record { onward = onward-start; reach = swing-told h (k .direction) e; unit = swing-unit h (k .direction) e }
+
+  module _ {l : List ℤ} {a k : ℕ} {s : Swing} (w : Bowing t b l₀ a₀ k₀ s₀ l a k s) where
     -- room for what is left of it
-    pub bowing-room : a₀ + 4 * k₀ + 4 ≤ length l₀ → a + 4 * k + 4 ≤ length l
-    bowing-room h =
-        omega (arith, onward-pos (w .onward), onward-length (w .onward), bow-size k₀ t (b .centre) (b .radius) (b .to) d₀ p₀, bow-size k t (b .centre) (b .radius) (b .to) d p)
+    pub bowing-room : {l′ : List ℤ} {at : ℕ} {p : Point} → Runs put pointNumbers l′ at (p ∷ []) l₀ a₀ → at + 4 * k₀ + 4 ≤ length l′ → a + 4 * k + 2 ≤ length l
+    bowing-room f h =
+        omega (
+          arith,
+          point-past f,
+          written-length f,
+          onward-pos (w .onward),
+          onward-length (w .onward),
+          rest-size t (b .centre) (b .radius) (b .to) k₀ s₀,
+          rest-size t (b .centre) (b .radius) (b .to) k s,
+        )
 
-    pub bowing-fits : a₀ + 4 * k₀ + 4 ≤ length l₀ → length l₀ < 2 ^ 64 → a + 4 < 2 ^ 64
-    bowing-fits h i = omega (arith, bowing-room h, onward-length (w .onward))
+    -- the direction that is next, and its point
+    pub bowing-unit : {d : Vector} → d ≡ headingOf s → UnitLong d
+    bowing-unit e = rw e (w .unit)
 
-    pub bowing-step : {e : Vector} {q : Point} {l₁ : List ℤ} {n : ℕ} → UnitLong t → SoundBow b → 0 < k → e ≡ rotatedOf t d → q ≡ scaledOf (b .centre) (bits (b .radius)) e
-        → Runs put edgeNumbers l a (record { a = p; b = q } ∷ []) l₁ n → Bowing t b l₀ a₀ k₀ d₀ p₀ l₁ n (k - 1) e q
-    bowing-step {e} u s h i j r = record {
-      onward = onward-step (onward-as (bow-go t (b .centre) (b .radius) (b .to) d p k h i (point-is (b .centre) e (s .radius) j)) (w .onward)) r;
-      unit = next-unit u (w .unit) i;
-      near = point-reach (s .centre) (s .radius) (next-unit u (w .unit) i) j;
-    }
+    pub bowing-near : {d : Vector} {q : Point} → SoundBow b → d ≡ headingOf s → q ≡ scaledOf (b .centre) (bits (b .radius)) d → Near q
+    bowing-near h e f = point-reach (h .centre) (h .radius) (bowing-unit e) f
 
-    pub bowing-done : {l₁ : List ℤ} {n : ℕ} → k ≤ 0 → Runs put edgeNumbers l a (record { a = p; b = b .to } ∷ []) l₁ n → Runs put edgeNumbers l₀ a₀ (bowEdges k₀ t (b .centre) (b .radius) (b .to) d₀ p₀) l₁ n
-    bowing-done h r = onward-done (onward-as (bow-end t (b .centre) (b .radius) (b .to) d p k h) (w .onward)) r
+    pub bowing-step : {d : Vector} {q : Point} {s₁ : Swing} {l₁ l₂ : List ℤ} {n₁ n₂ : ℕ} → UnitLong t → SoundBow b → 0 < k → d ≡ headingOf s → q ≡ scaledOf (b .centre) (bits (b .radius)) d → s₁ ≡ swingOf t d
+        → Runs put pointNumbers l a (q ∷ []) l₁ n₁ → Runs put pointNumbers l₁ n₁ (q ∷ []) l₂ n₂ → Bowing t b l₀ a₀ k₀ s₀ l₂ n₂ (k - 1) s₁
+    bowing-step {d} u z h i j e f g =
+        let v = bowing-unit i in
+        record {
+          onward = onward-step (onward-step (onward-as (rest-go t (b .centre) (b .radius) (b .to) k s h i (point-is (b .centre) d (z .radius) j) e) (w .onward)) f) g;
+          reach = swing-told u v e;
+          unit = swing-unit u v e;
+        }
+
+    pub bowing-done : {l′ l₁ : List ℤ} {at n : ℕ} → k ≤ 0 → s₀ ≡ swingOf t (b .direction) → Runs put pointNumbers l′ at (b .from ∷ []) l₀ a₀ → Runs put pointNumbers l a (b .to ∷ []) l₁ n
+        → Runs put edgeNumbers l′ at (bowEdges k₀ t (b .centre) (b .radius) (b .to) (b .direction) (b .from)) l₁ n
+    bowing-done h e f g =
+        let r = runs-then f (onward-done (onward-as (rest-end t (b .centre) (b .radius) (b .to) k s h) (w .onward)) g) in
+        let x = bow-points k₀ t (b .centre) (b .radius) (b .to) (b .direction) (b .from) in
+        record { out = rw (x, ← e) (r .out); pos = rw (x, ← e) (r .pos) }
+
+-- ---- a fold's edges, by its case
 
 pub one-room : {at : ℕ} (e : Edge) → at + 4 < 2 ^ 64 → Room edgeNumbers at (e ∷ [])
 unfolding spread edgeNumbers
 one-room e h = record { fits = h }
-
--- ---- a fold's edges, by its case
 
 pub width-straight : {f : Fold} {e : Edge} → f ≡ Straight e → 4 ≡ length (foldNumbers f)
 unfolding foldNumbers edgeNumbers

@@ -1,9 +1,9 @@
 -- What the limits leave of centres, radii and inner points, and what the code has computed of them on bits. Assumes nothing.
-use mathlib.Core.Path.{_≡_, _∙_}
-use Prim.Native.Nat.{_+_, _^_, _<_}
+use mathlib.Core.Path.{_≡_, refl, ap, _∙_}
+use Prim.Native.Nat.{_^_, _<_}
 use native.Mathlib.Omega.{arith}
 use lib.IntN.{ℤ, pos, natAbs, _+ℤ_, _-ℤ_}
-use lib.Signed.{mag, yes-nonNeg, pos-natAbs}
+use lib.Signed.{mag, quotZ, yes-nonNeg, pos-natAbs}
 use mir.Syntax.{w64}
 use mir.Val.{SFits}
 use Rattle.whole.specs.Sizes.{Size}
@@ -11,11 +11,13 @@ use Rattle.whole.proofs.Sizes.{size-add, size-fits}
 use Rattle.whole.proofs.Order.{minus-is, abs-minus}
 use Rattle.number.specs.MulDiv.{mulDivOf}
 use Rattle.plane.specs.Vectors.{Near}
-use Rattle.plane.specs.Directions.{UnitLong, rotatedOf, scaledOf}
+use Rattle.plane.specs.Directions.{UnitLong, rotatedOf, scaledOf, swingOf, headingOf, Swings}
 use Rattle.plane.proofs.Products.{bits, back, size-back, short-fits, near-fits}
 use Rattle.plane.proofs.Directions.{unit-short, turned-unit, scaled-most}
+use Rattle.plane.proofs.Swinging.{heading-swing, swing-reach}
 use Rattle.plane.specs.declared.Point.{Point}
 use Rattle.plane.specs.declared.Vector.{Vector}
+use Rattle.plane.specs.declared.rotation.Swing.{Swing}
 use Rattle.arc.specs.Arcs.{eastOf, westOf}
 use Rattle.arc.specs.Bounds.{Centre, Radius, Turns}
 
@@ -102,6 +104,33 @@ point-back c r d h k l e f g i =
     let u = unit-short l in
     λ j. record { x = moved-back (c .x) (d .x) r (h .x) (u .x) k e g j; y = moved-back (c .y) (d .y) r (h .y) (u .y) k f i j }
 
+-- or the coordinate moved by it at once
+landed-back : (c d r : ℤ) {a : ℤ} → Size (2 ^ 28) c → Size (2 ^ 30) d → Radius r → a ≡ bits c +ℤ mulDivOf (bits d) (pos (natAbs (bits r))) (2 ^ 30)
+    → bits a ≡ c +ℤ mulDivOf d r (2 ^ 30)
+landed-back c d r {a} h k l e =
+    let f : a ≡ c +ℤ mulDivOf d r (2 ^ 30) = rw (back (small-fits h), offset-is k l refl) at e in
+    rw f (back (moved-fits h (offset-size d r k l)))
+
+pub point-landed : (c : Point) (r : ℤ) (d : Vector) {a b : ℤ} → Centre c → Radius r → UnitLong d
+    → a ≡ bits (c .x) +ℤ mulDivOf (bits (d .x)) (pos (natAbs (bits r))) (2 ^ 30) → b ≡ bits (c .y) +ℤ mulDivOf (bits (d .y)) (pos (natAbs (bits r))) (2 ^ 30)
+    → record { x = bits a; y = bits b } ≡ scaledOf c r d
+unfolding scaledOf
+point-landed c r d h k l e f =
+    let u = unit-short l in
+    λ j. record { x = landed-back (c .x) (d .x) r (h .x) (u .x) k e j; y = landed-back (c .y) (d .y) r (h .y) (u .y) k f j }
+
+-- what it asks for of a swing and the direction that it comes to
+divided-back : {d z : ℤ} → Size (2 ^ 30) d → SFits w64 z → d ≡ quotZ z (pos (2 ^ 30)) → bits d ≡ quotZ (bits z) (pos (2 ^ 30))
+divided-back h k e = rw (back (short-fits h), back k) e
+
+pub heading-x : {d : Vector} (s : Swing) → UnitLong d → SFits w64 (s .x) → d ≡ headingOf s → bits (d .x) ≡ quotZ (bits (s .x)) (pos (2 ^ 30))
+unfolding headingOf
+heading-x s h k e = divided-back (unit-short h .x) k (ap (λ (v : Vector). v .x) e)
+
+pub heading-y : {d : Vector} (s : Swing) → UnitLong d → SFits w64 (s .y) → d ≡ headingOf s → bits (d .y) ≡ quotZ (bits (s .y)) (pos (2 ^ 30))
+unfolding headingOf
+heading-y s h k e = divided-back (unit-short h .y) k (ap (λ (v : Vector). v .y) e)
+
 -- it is near
 pub point-near : {c : Point} {r : ℤ} {d : Vector} → Centre c → Radius r → UnitLong d → Near (scaledOf c r d)
 unfolding scaledOf
@@ -116,8 +145,18 @@ point-is c d h e = rw (radius-back h) at e
 pub point-reach : {c : Point} {d : Vector} {q : Point} {r : ℤ} → Centre c → Radius r → UnitLong d → q ≡ scaledOf c (bits r) d → Near q
 point-reach {c} {d} h k l e = rw (point-is c d k e) (point-near h k l)
 
+-- the next direction, by way of what it is divided from
+pub swing-told : {t d : Vector} {s : Swing} → UnitLong t → UnitLong d → s ≡ swingOf t d → Swings s
+swing-told h k e = rw e (swing-reach h k)
+
+pub swing-next : (t d : Vector) {n : Vector} {s : Swing} → s ≡ swingOf t d → n ≡ headingOf s → n ≡ rotatedOf t d
+swing-next t d e f = f ∙ ap headingOf e ∙ heading-swing t d
+
 pub next-unit : {t d n : Vector} → UnitLong t → UnitLong d → n ≡ rotatedOf t d → UnitLong n
 next-unit h k e = rw e (turned-unit h k)
+
+pub swing-unit : {t d : Vector} {s : Swing} → UnitLong t → UnitLong d → s ≡ swingOf t d → UnitLong (headingOf s)
+swing-unit h k e = next-unit h k (swing-next _ _ e refl)
 
 -- what an arc keeps, with the radius's bits
 pub turns-within : {t u : Vector} {c q : Point} {r : ℤ} → UnitLong t → Centre c → Radius r → Near q → UnitLong u → Turns (record { step = t; centre = c; radius = bits r; to = q; toward = u })

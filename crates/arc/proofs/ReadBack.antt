@@ -2,7 +2,7 @@
 use mathlib.Core.Path.{_≡_, refl, sym, ap, _∙_}
 use mathlib.Core.Bool.{false}
 use mathlib.Core.List.{List, [], _∷_, _++_}
-use Prim.Native.Nat.{ℕ, _+_, _-_, _*_, _^_, _≤_, _<_}
+use Prim.Native.Nat.{ℕ, _+_, _*_, _^_, _≤_, _<_}
 use native.Mathlib.Omega.{arith}
 use lib.IntN.{ℤ, pos, natAbs}
 use lib.ListN.{length, getD, take, drop, length-append, length-drop}
@@ -79,7 +79,7 @@ same-folds (f ∷ fs) (g ∷ gs) h i p =
 
 -- ---- how many numbers the edges come to
 
-pub bow-size : (n : ℕ) (t : Vector) (c : Point) (r : ℤ) (q : Point) (d : Vector) (p : Point) → length (spread edgeNumbers (bowEdges n t c r q d p)) ≡ 4 * n + 4
+bow-size : (n : ℕ) (t : Vector) (c : Point) (r : ℤ) (q : Point) (d : Vector) (p : Point) → length (spread edgeNumbers (bowEdges n t c r q d p)) ≡ 4 * n + 4
 bow-size n t c r q d p = omega (arith, edges-size (bowEdges n t c r q d p), bow-length n t c r q d p)
 
 pub fold-size : (t : Vector) (f : Fold) → length (spread edgeNumbers (edgesIn t f)) ≡ sizeOf f

@@ -1,4 +1,4 @@
--- An edge as four stores into lent numbers. Assumes nothing.
+-- An edge as four stores into lent numbers, and a point as two. Assumes nothing.
 use mathlib.Core.Path.{_≡_, refl, sym, ap, _∙_}
 use mathlib.Core.Bool.{true, false}
 use mathlib.Core.List.{List, [], _∷_}
@@ -13,10 +13,10 @@ use mir.Facts.{toZ-ofZ}
 use Rattle.whole.specs.Sizes.{Size}
 use Rattle.whole.proofs.Sizes.{size-fits}
 use Rattle.runs.specs.Runs.{Runs, Room, spread, over, put}
-use Rattle.plane.specs.Vectors.{samePoint}
+use Rattle.plane.specs.Vectors.{Near, samePoint}
 use Rattle.plane.proofs.Products.{bits, back, near-fits}
 use Rattle.plane.specs.declared.Point.{Point}
-use Rattle.arc.specs.Edges.{edgeNumbers, edgeOf}
+use Rattle.arc.specs.Edges.{edgeNumbers, pointNumbers, edgeOf}
 use Rattle.arc.specs.Bounds.{Reach}
 use Rattle.arc.specs.declared.Edge.{Edge}
 
@@ -73,3 +73,14 @@ edge-stored {at = at} e h ex ey ez ew p q r s = record {
   out = cc (add-one at, add-two at, add-three at, narrowed (h .a .x) ex, narrowed (h .a .y) ey, narrowed (h .b .x) ez, narrowed (h .b .y) ew);
   pos = refl;
 }
+
+-- ---- one point is two
+
+pub point-stored : {l₀ l₁ l₂ : List ℤ} {at : ℕ} (p : Point) {x y : ℤ} → Near p → x ≡ bits (p .x) → y ≡ bits (p .y)
+    → l₁ ≡ set l₀ at (number x) → l₂ ≡ set l₁ (at + 1) (number y) → Runs put pointNumbers l₀ at (p ∷ []) l₂ (at + 2)
+unfolding spread over pointNumbers
+point-stored {at = at} p h ex ey q r = record { out = cc (add-one at, narrowed (h .x) ex, narrowed (h .y) ey); pos = refl }
+
+pub point-past : {l₀ l₁ : List ℤ} {at n : ℕ} {p : Point} → Runs put pointNumbers l₀ at (p ∷ []) l₁ n → n ≡ at + 2
+unfolding spread pointNumbers
+point-past h = h .pos

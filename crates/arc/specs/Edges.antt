@@ -10,6 +10,10 @@ use Rattle.arc.specs.declared.Edge.{Edge}
 unfoldable pub edgeNumbers : Edge → List ℤ
 edgeNumbers e = e .a .x ∷ e .a .y ∷ e .b .x ∷ e .b .y ∷ []
 
+-- Two a point.
+unfoldable pub pointNumbers : Point → List ℤ
+pointNumbers p = p .x ∷ p .y ∷ []
+
 -- The edge from p to q. Edges of no length are not emitted.
 unfoldable pub edgeOf : Point → Point → List Edge
 edgeOf p q = elim (samePoint p q) [ true ↦ [] | false ↦ record { a = p; b = q } ∷ [] ]

@@ -44,7 +44,7 @@ fn store_some(out: &mut [i32], at: usize, e: Edge) -> usize
 }
 
 // The number w at i, which is inside the room.
-fn place(out: &mut [i32], i: usize, w: i32)
+pub fn place(out: &mut [i32], i: usize, w: i32)
     requires { ⌜ i < length (now out) ⌝ }
     ensures { λ _. ⌜ now (out .exit) ≡ set (now (out .entry)) i w ⌝ }
 {
@@ -71,11 +71,11 @@ fn emit(out: &mut [i32], at: usize, e: Edge) -> usize
     requires { ⌜ Room edgeNumbers at (e ∷ []) ⌝ }
     ensures { λ r. ⌜ Runs putOf edgeNumbers (now (out .entry)) at (e ∷ []) (now (out .exit)) r ⌝ }
 {
+    if at + 4 <= out.len() {
+        return store(out, at, e);
+    }
     if out.len() <= at {
         return at + 4;
-    }
-    if 4 <= out.len() - at {
-        return store(out, at, e);
     }
     store_some(out, at, e)
 }

@@ -3,8 +3,9 @@ use crate::Turning;
 use crate::edges::edge;
 use plane::Point;
 use plane::Vector;
-use plane::rotation::rotated;
+use plane::rotation::heading;
 use plane::rotation::scaled;
+use plane::rotation::swung;
 use plane::vectors::cross;
 use plane::vectors::dot;
 ghost use mathlib.Core.Path.{_≡_};
@@ -67,14 +68,16 @@ pub fn written(out: &mut [i32], at: usize, r: Turning, d: Vector, p: Point) -> u
     let mut n = at;
     let mut left: usize = 1536;
     let mut z = cross(dir, r.toward);
+    let mut s = swung(r.step, dir);
     while 0 < left {
-        let next = rotated(r.step, dir);
+        let next = heading(s);
         if stops(z, dir, next, r.toward) {
             return edge(out, n, cur, r.to);
         }
         let q = point_at(r.centre, r.radius, next);
         n = edge(out, n, cur, q);
         z = cross(next, r.toward);
+        s = swung(r.step, next);
         dir = next;
         cur = q;
         left -= 1;

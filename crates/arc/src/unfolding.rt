@@ -2,19 +2,26 @@
 use crate::Bow;
 use crate::Edge;
 use crate::Fold;
+use crate::edges::narrow;
+use crate::edges::place;
 use crate::edges::store;
 use crate::folding::MARK;
-use crate::turn::point_at;
 use plane::Point;
 use plane::Vector;
-use plane::rotation::rotated;
+use plane::rotation::Swing;
+use plane::rotation::heading;
+use plane::rotation::landed;
+use plane::rotation::swung;
 ghost use mathlib.Core.Path.{_≡_};
+ghost use mathlib.Core.List.{[], _∷_};
 ghost use Prim.Native.Nat.{_+_, _*_, _^_, _<_, _≤_};
 ghost use lib.IntN.{pos};
 ghost use lib.ListN.{length, getD};
 ghost use Rattle.runs.specs.Runs.{Runs, put};
-ghost use Rattle.plane.specs.Directions.{UnitLong};
-ghost use Rattle.arc.specs.Edges.{edgeNumbers};
+ghost use Rattle.plane.specs.Vectors.{Near};
+ghost use Rattle.plane.specs.Directions.{UnitLong, scaledOf, headingOf};
+ghost use Rattle.arc.specs.Edges.{edgeNumbers, pointNumbers};
+ghost use Rattle.arc.specs.Bounds.{Centre, Radius};
 ghost use Rattle.arc.specs.Folds.{bowEdges, edgesIn, foldNumbers, sizeOf, pointIn, directionIn, SoundBow, Sound, Holds, RoomFor, Stands, Reads, StandsBent, ReadsBent, Sizes, Unfolds};
 
 // The number at j, with more room.
@@ -117,24 +124,45 @@ pub fn unfolded(own: &[i32], m: usize) -> usize
     n
 }
 
-// An arc's edges, all of them inside the room.
+// A point's two numbers, inside the room.
+fn place_point(out: &mut [i32], at: usize, p: Point) -> usize
+    requires { ⌜ Near p × (at + 1 < length (now out)) ⌝ }
+    ensures { λ n. ⌜ Runs put pointNumbers (now (out .entry)) at (p ∷ []) (now (out .exit)) n ⌝ }
+{
+    place(out, at, narrow(p.x));
+    place(out, at + 1, narrow(p.y));
+    at + 2
+}
+
+// The point in the direction d, to which the swing s comes, at the radius from the centre.
+fn point_of(c: Point, radius: i64, s: Swing, d: Vector) -> Point
+    requires { ⌜ Centre c × Radius radius × UnitLong d × (d ≡ headingOf s) ⌝ }
+    ensures { λ p. ⌜ p ≡ scaledOf c radius d ⌝ }
+{
+    let r = radius as u64;
+    Point {
+        x: landed(c.x, s.x, d.x, r),
+        y: landed(c.y, s.y, d.y, r),
+    }
+}
+
+// An arc's edges, all of them inside the room, point by point: where an edge ends the next one starts.
 fn bow(out: &mut [i32], at: usize, t: Vector, b: Bow) -> usize
     requires { ⌜ UnitLong t × SoundBow b × (at + 4 * b .turns + 4 ≤ length (now out)) ⌝ }
     ensures { λ n. ⌜ Runs put edgeNumbers (now (out .entry)) at (bowEdges (b .turns) t (b .centre) (b .radius) (b .to) (b .direction) (b .from)) (now (out .exit)) n ⌝ }
 {
-    let mut d = b.direction;
-    let mut p = b.from;
-    let mut n = at;
+    let mut s = swung(t, b.direction);
+    let mut n = place_point(out, at, b.from);
     let mut left = b.turns;
     while 0 < left {
-        d = rotated(t, d);
-        let q = point_at(b.centre, b.radius, d);
-        n = store(out, n, Edge { a: p, b: q });
-        p = q;
+        let d = heading(s);
+        let q = point_of(b.centre, b.radius, s, d);
+        n = place_point(out, n, q);
+        n = place_point(out, n, q);
+        s = swung(t, d);
         left -= 1;
     }
-    let to = b.to;
-    store(out, n, Edge { a: p, b: to })
+    place_point(out, n, b.to)
 }
 
 // A fold's edges, all of them inside the room.

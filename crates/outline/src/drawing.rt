@@ -14,7 +14,7 @@ ghost use mathlib.Core.Path.{_≡_};
 ghost use Prim.Native.Nat.{_^_, _≤_, _<_};
 ghost use lib.ListN.{length, take};
 ghost use Rattle.runs.specs.Runs.{over, put};
-ghost use Rattle.plane.specs.Directions.{UnitLong};
+ghost use Rattle.plane.specs.Directions.{UnitLong, stepOf};
 ghost use Rattle.arc.specs.Folds.{Holds, Edgewise, RoomFor, Sizes, Unfolds};
 ghost use Rattle.outline.specs.Checks.{Fits};
 ghost use Rattle.outline.specs.Answers.{Draws};
@@ -61,18 +61,14 @@ fn draw_through(
     path: &[i32],
     n: usize,
     grade: u32,
-    folds: bool,
+    pen: Pen,
     own: &mut [i32],
     out: &mut [i32],
 ) -> Drawn
-    requires { ⌜ Fits (now path) grade n × (0 < n) × (length (now own) ≤ 2 ^ 32) ⌝ }
+    requires { ⌜ Fits (now path) grade n × (0 < n) × (length (now own) ≤ 2 ^ 32) × (pen .step ≡ stepOf grade) ⌝ }
     ensures { λ r. ⌜ Draws (now (path .entry)) grade (now (out .entry)) r (now (out .exit)) ⌝ }
 {
-    let t = step(grade);
-    let pen = Pen {
-        step: t,
-        folds: folds,
-    };
+    let t = pen.step;
     let begun = begin(path, n, pen, own);
     let size = held_size(own, begun.at, pen);
     let walk = begun.walk;
@@ -98,12 +94,22 @@ fn likely(n: usize, grade: u32) -> usize
     n * (16 + (2 << grade))
 }
 
-// Whether arcs are folded: of fine steps, and where there are more numbers than own ones. Only speed leans on it.
+// Whether arcs are folded: at grades 7 and 8, and at 5 and 6 where there are more numbers than own ones. Only speed leans on it.
 fn folds(grade: u32, about: usize) -> bool {
-    4 < grade && 131072 < about
+    6 < grade || 4 < grade && 131072 < about
 }
 
-// The edges of a path that passed its rows, by way of as many own numbers as it likely comes to.
+// About how many own numbers hold a path: folded, it is some 31 a vertex. Only speed leans on it.
+fn held(n: usize, about: usize, folding: bool) -> usize
+    requires { ⌜ n ≤ 4096 ⌝ }
+{
+    if folding {
+        return 31 * n;
+    }
+    about
+}
+
+// The edges of a path that passed its rows, by way of as many own numbers as likely hold it.
 pub fn draw_path(path: &[i32], n: usize, grade: u32, out: &mut [i32]) -> Drawn
     requires { ⌜ Fits (now path) grade n ⌝ }
     ensures { λ r. ⌜ Draws (now (path .entry)) grade (now (out .entry)) r (now (out .exit)) ⌝ }
@@ -112,20 +118,27 @@ pub fn draw_path(path: &[i32], n: usize, grade: u32, out: &mut [i32]) -> Drawn
         return Drawn::Edges(0);
     }
     let about = likely(n, grade);
-    if about <= 1024 {
+    let folding = folds(grade, about);
+    let t = step(grade);
+    let pen = Pen {
+        step: t,
+        folds: folding,
+    };
+    let need = held(n, about, folding);
+    if need <= 1024 {
         let mut own = [0i32; 1024];
-        return draw_through(path, n, grade, false, &mut own, out);
+        return draw_through(path, n, grade, pen, &mut own, out);
     }
-    if about <= 8192 {
+    if need <= 8192 {
         let mut own = [0i32; 8192];
-        return draw_through(path, n, grade, false, &mut own, out);
+        return draw_through(path, n, grade, pen, &mut own, out);
     }
-    if about <= 28672 {
+    if need <= 28672 {
         let mut own = [0i32; 32768];
-        return draw_through(path, n, grade, false, &mut own, out);
+        return draw_through(path, n, grade, pen, &mut own, out);
     }
     let mut own = [0i32; 131072];
-    draw_through(path, n, grade, folds(grade, about), &mut own, out)
+    draw_through(path, n, grade, pen, &mut own, out)
 }
 
 // The edges of a path, four numbers an edge, into lent numbers.

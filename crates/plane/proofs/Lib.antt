@@ -5,4 +5,5 @@ pub mod Directions
 pub mod Turns
 pub mod Shifts
 pub mod Norms
+pub mod Swinging
 pub mod Leeway

@@ -22,8 +22,11 @@ use Rattle.plane.proofs.Products.{bits, back, short-fits, product-fits}
 pub half-fits : {z h : ℤ} → Size (2 ^ 60) z → Size (2 ^ 60) h → SFits w64 (z +ℤ h)
 half-fits k l = size-fits (2 ^ 61) w64 _ (size-add (2 ^ 60) (2 ^ 60) _ _ k l) tt
 
+pub shifted-fits : (m : ℕ) {z : ℤ} → SFits w64 z → SFits w64 (shrZ z m)
+shifted-fits m {z} h = record { sfits = lt-of-le-of-lt (mag-shr z m) (h .sfits) }
+
 pub shift-fits : {z : ℤ} → SFits w64 z → SFits w64 (shrZ z (2 ^ 30))
-shift-fits {z} h = record { sfits = lt-of-le-of-lt (mag-shr z (2 ^ 30)) (h .sfits) }
+shift-fits h = shifted-fits (2 ^ 30) h
 
 -- ---- to the nearest
 
@@ -68,7 +71,7 @@ module _ (d : ℤ) (r : ℕ) (h : natAbs d ≤ 2 ^ 30) (k : r ≤ 2 ^ 28) where
   pub radius-short : Size (2 ^ 30) (toZ w64 r)
   radius-short = rw natural (record { size = omega arith })
 
-  product-is : {z : ℤ} → z ≡ bits d *ℤ toZ w64 r → bits z ≡ d *ℤ pos r
+  pub product-is : {z : ℤ} → z ≡ bits d *ℤ toZ w64 r → bits z ≡ d *ℤ pos r
   product-is {z} e =
       let f : z ≡ d *ℤ pos r = rw (same, natural) at e in
       rw f (back (product-fits {a = d} {b = pos r} (record { size = h }) (record { size = omega arith })))

@@ -281,16 +281,21 @@ fn as_much_as_draw_holds_and_more() {
     }
 }
 
-/// Of many vertices at fine grades draw holds whole arcs in a few numbers each.
+/// At grades 7 and 8, and of many vertices at 5 and 6, draw holds whole arcs in
+/// a few numbers each; how much it holds goes by how many vertices there are.
 /// Where circles are small most arcs stand edge by edge, which is more than
 /// draw holds: the rest is counted, and drawn anew.
 #[test]
 fn holds_whole_arcs() {
     for (count, grade) in [
-        (248, 8),
-        (249, 8),
-        (900, 7),
-        (1_800, 6),
+        (33, 8),
+        (34, 8),
+        (264, 7),
+        (265, 8),
+        (924, 7),
+        (925, 7),
+        (910, 6),
+        (911, 6),
         (4_096, 5),
         (4_096, 8),
     ] {
@@ -327,7 +332,7 @@ fn holds_whole_arcs_of_any_path() {
     let paths = std::env::var("PATHS").map_or(60, |count| count.parse().unwrap());
     let mut maker = Maker::new(9);
     for _ in 0..paths {
-        let (grade, least) = maker.pick(&[(5, 1_639), (6, 911), (7, 482), (8, 249)]);
+        let (grade, least) = maker.pick(&[(5, 1_639), (6, 911), (7, 1), (8, 1)]);
         let count = least + maker.index_below(900);
         let path = long_path(&mut maker, count);
         let needed = needed(plain::calls::draw(path.as_flattened(), grade, &mut []));

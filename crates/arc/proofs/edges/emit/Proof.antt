@@ -5,14 +5,8 @@ use Rattle.arc.proofs.Stored.{room-one, edge-past}
 use Rattle.arc.proofs.edges.emit.Statement.{statement}
 use Rattle.arc.proofs.edges.emit.Tie as tie
 
-add-result : tie.Need-add-result
-add-result c = omega (arith, room-one _ (c .before .pre .1))
-
-returns : tie.Need-returns
-returns c = edge-past _ (c .if1 .taken)
-
-sub-if2 : tie.Need-sub-if2
-sub-if2 c = omega (arith, c .if1 .left)
+add-if1 : tie.Need-add-if1
+add-if1 c = omega (arith, room-one _ (c .pre .1))
 
 store-requires : tie.Need-store-requires
 store-requires c κs = search needs
@@ -20,8 +14,14 @@ store-requires c κs = search needs
 same-length : tie.Need-same-length
 same-length c = search needs
 
+returns : tie.Need-returns
+returns c = search needs
+
+add-result : tie.Need-add-result
+add-result c = omega (arith, room-one _ (c .before .before .pre .1))
+
 returns-2 : tie.Need-returns-2
-returns-2 c = search needs
+returns-2 c = edge-past _ (c .if2 .taken)
 
 store-some-requires : tie.Need-store-some-requires
 store-some-requires c κs = search needs
@@ -36,11 +36,11 @@ pub emit-spec : {M : Type 1} → statement M
 emit-spec =
     tie.close
     (tie.spec
-    add-result
-    returns
-    sub-if2
+    add-if1
     store-requires
     same-length
+    returns
+    add-result
     returns-2
     store-some-requires
     same-length-2

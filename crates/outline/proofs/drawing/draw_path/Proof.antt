@@ -11,6 +11,15 @@ returns c = draws-none _ _ (c .before .pre) (c .if1 .taken)
 likely-requires : tie.Need-likely-requires
 likely-requires c κs = search needs
 
+folds-requires : tie.Need-folds-requires
+folds-requires c κs = search needs
+
+step-requires : tie.Need-step-requires
+step-requires c κs = search needs
+
+held-requires : tie.Need-held-requires
+held-requires c κs = search needs
+
 slice-aggregate-draw-through : tie.Need-slice-aggregate-draw-through
 slice-aggregate-draw-through c = search needs
 
@@ -47,14 +56,11 @@ same-length-3 c = search needs
 returns-4 : tie.Need-returns-4
 returns-4 c = search needs
 
-folds-requires : tie.Need-folds-requires
-folds-requires c κs = search needs
-
 slice-aggregate-draw-through-4 : tie.Need-slice-aggregate-draw-through-4
 slice-aggregate-draw-through-4 c = search needs
 
 draw-through-requires-4 : tie.Need-draw-through-requires-4
-draw-through-requires-4 c κs = (c .before .before .before .before .before .before .before .before .pre, omega (arith, c .before .before .before .before .before .before .before .if1 .left), search needs)
+draw-through-requires-4 c κs = (c .before .before .before .before .before .before .before .before .before .before .pre, omega (arith, c .before .before .before .before .before .before .before .before .before .if1 .left), search needs, c .before .before .before .before .before .before .step .ensures)
 
 same-length-4 : tie.Need-same-length-4
 same-length-4 c = search needs
@@ -68,6 +74,9 @@ draw-path-spec =
     (tie.spec
     returns
     likely-requires
+    folds-requires
+    step-requires
+    held-requires
     slice-aggregate-draw-through
     draw-through-requires
     same-length
@@ -80,7 +89,6 @@ draw-path-spec =
     draw-through-requires-3
     same-length-3
     returns-4
-    folds-requires
     slice-aggregate-draw-through-4
     draw-through-requires-4
     same-length-4

@@ -9,13 +9,10 @@ use Rattle.outline.proofs.PathChecks.{walk-room, draws-short, draws-don
 use Rattle.outline.proofs.drawing.draw_through.Statement.{statement}
 use Rattle.outline.proofs.drawing.draw_through.Tie as tie
 
-step-requires : tie.Need-step-requires
-step-requires c κs = search needs
-
 begin-requires : tie.Need-begin-requires
 begin-requires c κs =
     let f = c .before .before .pre .0 in
-    ((f .count, f .within .inside, step-unit _ (c .before .step .ensures), c .before .before .pre .1), walk-room _ f (c .before .step .ensures))
+    ((f .count, f .within .inside, step-unit _ (c .before .before .pre .3), c .before .before .pre .1), walk-room _ f (c .before .before .pre .3))
 
 held-size-requires : tie.Need-held-size-requires
 held-size-requires c κs =
@@ -30,7 +27,7 @@ go-on-requires c κs =
     let f = c .before .before .before .before .before .before .before .before .pre .0 in
     let h = c .before .before .before .before .before .begin .ensures in
     let a = begun-along h (c .before .before .held-size .ensures .size _ (h .held) (h .sound) (h .numbers)) in
-    ((f .count, f .within .inside, step-unit _ (c .before .before .before .before .before .before .before .step .ensures), a .around, omega (arith, a .next, f .count)), along-room a (walk-room _ f (c .before .before .before .before .before .before .before .step .ensures)))
+    ((f .count, f .within .inside, step-unit _ (c .before .before .before .before .before .before .before .before .pre .3), a .around, omega (arith, a .next, f .count)), along-room a (walk-room _ f (c .before .before .before .before .before .before .before .before .pre .3)))
 
 same-length : tie.Need-same-length
 same-length c = search needs
@@ -39,19 +36,19 @@ returns : tie.Need-returns
 returns c =
     let h = c .before .before .before .before .before .before .before .before .begin .ensures in
     let a = begun-along h (c .before .before .before .before .before .held-size .ensures .size _ (h .held) (h .sound) (h .numbers)) in
-    draws-short _ (c .before .before .before .before .before .before .before .before .before .before .before .pre .0) (c .before .before .before .before .before .before .before .before .before .before .step .ensures) (along-end a [] (c .before .before .go-on .ensures)) _ (c .if1 .taken)
+    draws-short _ (c .before .before .before .before .before .before .before .before .before .before .before .pre .0) (c .before .before .before .before .before .before .before .before .before .before .before .pre .3) (along-end a [] (c .before .before .go-on .ensures)) _ (c .if1 .taken)
 
 put-held-requires : tie.Need-put-held-requires
 put-held-requires c κs =
     let h = c .before .before .before .before .before .before .before .before .before .before .begin .ensures in
-    (step-unit _ (c .before .before .before .before .before .before .before .before .before .before .before .before .step .ensures), begun-holds h, begun-edgewise h, sizes-room _ (c .before .before .before .before .before .before .before .held-size .ensures) (omega (arith, c .before .before .before .before .go-on .ensures .pos, c .before .before .if1 .left)))
+    (step-unit _ (c .before .before .before .before .before .before .before .before .before .before .before .before .before .pre .3), begun-holds h, begun-edgewise h, sizes-room _ (c .before .before .before .before .before .before .before .held-size .ensures) (omega (arith, c .before .before .before .before .go-on .ensures .pos, c .before .before .if1 .left)))
 
 go-on-requires-2 : tie.Need-go-on-requires-2
 go-on-requires-2 c κs =
     let f = c .before .before .before .before .before .before .before .before .before .before .before .before .before .before .before .before .pre .0 in
     let h = c .before .before .before .before .before .before .before .before .before .before .before .before .before .begin .ensures in
     let a = begun-along h (c .before .before .before .before .before .before .before .before .before .before .held-size .ensures .size _ (h .held) (h .sound) (h .numbers)) in
-    ((f .count, f .within .inside, step-unit _ (c .before .before .before .before .before .before .before .before .before .before .before .before .before .before .before .step .ensures), a .around, omega (arith, a .next, f .count)), along-room a (walk-room _ f (c .before .before .before .before .before .before .before .before .before .before .before .before .before .before .before .step .ensures)))
+    ((f .count, f .within .inside, step-unit _ (c .before .before .before .before .before .before .before .before .before .before .before .before .before .before .before .before .pre .3), a .around, omega (arith, a .next, f .count)), along-room a (walk-room _ f (c .before .before .before .before .before .before .before .before .before .before .before .before .before .before .before .before .pre .3)))
 
 same-length-2 : tie.Need-same-length-2
 same-length-2 c = search needs
@@ -65,13 +62,12 @@ returns-2 c =
     let e = c .before .before .before .before .before .before .before .before .before .before .before .before .held-size .ensures .size _ (h .held) (h .sound) (h .numbers) in
     let a = begun-along h e in
     let all = begun-whole h e (c .before .before .before .before .put-held .ensures .unfolds (h .held) (h .sound) (h .numbers)) (c .before .go-on2 .ensures) in
-    draws-done _ (c .before .before .before .before .before .before .before .before .before .before .before .before .before .before .before .before .before .before .pre .0) (c .before .before .before .before .before .before .before .before .before .before .before .before .before .before .before .before .before .step .ensures) all (omega (arith, all .pos, along-end a [] (c .before .before .before .before .before .before .before .before .before .go-on .ensures) .pos, c .before .before .before .before .before .before .before .if1 .left))
+    draws-done _ (c .before .before .before .before .before .before .before .before .before .before .before .before .before .before .before .before .before .before .pre .0) (c .before .before .before .before .before .before .before .before .before .before .before .before .before .before .before .before .before .before .pre .3) all (omega (arith, all .pos, along-end a [] (c .before .before .before .before .before .before .before .before .before .go-on .ensures) .pos, c .before .before .before .before .before .before .before .if1 .left))
 
 pub draw-through-spec : {M : Type 1} → statement M
 draw-through-spec =
     tie.close
     (tie.spec
-    step-requires
     begin-requires
     held-size-requires
     slice-aggregate-go-on
