@@ -144,7 +144,7 @@ most-within : {a : ℕ} (u v : Vector) → Most a (u .x -ℤ v .x) (u .y -ℤ v 
 unfolding squareOf lessOf
 most-within u v h = record { within = h .most }
 
-unit-most : (v : Vector) → UnitLong v → Most (2 ^ 30) (v .x) (v .y)
+pub unit-most : (v : Vector) → UnitLong v → Most (2 ^ 30) (v .x) (v .y)
 unfolding squareOf
 unit-most v h = record { most = h .length }
 

@@ -12,11 +12,12 @@ use Rattle.whole.specs.Sizes.{Size}
 use Rattle.whole.proofs.Signed.{up, down, ext, add-balance, up-mul, down-mul, up-neg}
 use Rattle.whole.proofs.Sizes.{size-add, size-mul, size-fits, quot-fits}
 use Rattle.number.specs.MulDiv.{mulDivOf}
-use Rattle.plane.specs.Vectors.{Short, squareOf}
+use Rattle.plane.specs.Vectors.{Short}
 use Rattle.plane.specs.Directions.{UnitLong, rotatedOf, swingOf, headingOf, Swings}
 use Rattle.plane.proofs.Products.{bits, back, sum-fits, difference-fits}
 use Rattle.plane.proofs.Turns.{first-is, second-is}
-use Rattle.plane.proofs.Norms.{Most, most-product, most-first, most-second}
+use Rattle.plane.proofs.Norms.{most-product, most-first, most-second}
+use Rattle.plane.proofs.Leeway.{unit-most}
 use Rattle.plane.proofs.Shifts.{product-is, shift-fits, shifted-fits, shifted-minus, shifted-plus}
 use Rattle.plane.specs.declared.Vector.{Vector}
 use Rattle.plane.specs.declared.rotation.Swing.{Swing}
@@ -27,14 +28,10 @@ pub heading-swing : (t v : Vector) → headingOf (swingOf t v) ≡ rotatedOf t v
 unfolding swingOf headingOf rotatedOf
 heading-swing t v = refl
 
-unit-most : {v : Vector} → UnitLong v → Most (2 ^ 30) (v .x) (v .y)
-unfolding squareOf
-unit-most h = record { most = h .length }
-
 pub swing-reach : {t v : Vector} → UnitLong t → UnitLong v → Swings (swingOf t v)
 unfolding swingOf
 swing-reach {t} {v} h k =
-    let m = most-product (t .x) (t .y) (v .x) (v .y) (unit-most h) (unit-most k) in
+    let m = most-product (t .x) (t .y) (v .x) (v .y) (unit-most t h) (unit-most v k) in
     record { x = record { size = most-first m }; y = record { size = most-second m } }
 
 -- from what the code has computed on bits
@@ -45,7 +42,7 @@ unfolding swingOf
 swing-back t v h k e f =
     rw (first-is h k e, second-is h k f, back (difference-fits (h .x) (k .x) (h .y) (k .y)), back (sum-fits (h .y) (k .x) (h .x) (k .y)))
 
-pub wide-fits : {z : ℤ} → Size (2 ^ 60) z → SFits w64 z
+wide-fits : {z : ℤ} → Size (2 ^ 60) z → SFits w64 z
 wide-fits h = size-fits (2 ^ 60) w64 _ h tt
 
 pub heading-back : (s : Swing) {a b : ℤ} → Swings s → a ≡ quotZ (bits (s .x)) (pos (2 ^ 30)) → b ≡ quotZ (bits (s .y)) (pos (2 ^ 30)) → record { x = bits a; y = bits b } ≡ headingOf s
@@ -70,13 +67,13 @@ raised-down (negsuc a) m e =
     let f : m / 2 ^ 30 ≡ suc (a / 2 ^ 32) = omega arith in
     rw f
 
-pub upper-minus : (z : ℤ) → ltZ z (pos 0) ≡ true → shrZ (pos 4 *ℤ z +ℤ pos (2 ^ 32 - 4)) (2 ^ 32) ≡ quotZ z (pos (2 ^ 30))
+upper-minus : (z : ℤ) → ltZ z (pos 0) ≡ true → shrZ (pos 4 *ℤ z +ℤ pos (2 ^ 32 - 4)) (2 ^ 32) ≡ quotZ z (pos (2 ^ 30))
 upper-minus (pos n) t = absurd (true≢false (sym t ∙ le-ltb n 0 (omega arith)))
 upper-minus (negsuc n) t =
     raised-down (pos 4 *ℤ negsuc n +ℤ pos (2 ^ 32 - 4)) (suc n)
     (omega (arith, add-balance (pos 4 *ℤ negsuc n) (pos (2 ^ 32 - 4)), up-mul (pos 4) (negsuc n), down-mul (pos 4) (negsuc n)))
 
-pub upper-plus : (z : ℤ) → ltZ z (pos 0) ≡ false → shrZ (pos 4 *ℤ z) (2 ^ 32) ≡ quotZ z (pos (2 ^ 30))
+upper-plus : (z : ℤ) → ltZ z (pos 0) ≡ false → shrZ (pos 4 *ℤ z) (2 ^ 32) ≡ quotZ z (pos (2 ^ 30))
 upper-plus (pos n) t =
     let e : 4 * n / 2 ^ 32 ≡ n / 2 ^ 30 = omega arith in
     ap pos e
@@ -94,14 +91,14 @@ floor-high (pos a) = omega arith
 floor-high (negsuc a) = omega arith
 
 -- whole parts go past it
-pub shift-past : (c w : ℤ) → shrZ (c *ℤ pos (2 ^ 30) +ℤ w) (2 ^ 30) ≡ c +ℤ shrZ w (2 ^ 30)
+shift-past : (c w : ℤ) → shrZ (c *ℤ pos (2 ^ 30) +ℤ w) (2 ^ 30) ≡ c +ℤ shrZ w (2 ^ 30)
 shift-past c w =
     let z = c *ℤ pos (2 ^ 30) +ℤ w in
     ext (shrZ z (2 ^ 30)) (c +ℤ shrZ w (2 ^ 30))
     (omega (arith, floor-low z, floor-high z, floor-low w, floor-high w, add-balance (c *ℤ pos (2 ^ 30)) w, up-mul c (pos (2 ^ 30)), down-mul c (pos (2 ^ 30)), add-balance c (shrZ w (2 ^ 30))))
 
 -- a component of 0 is scaled to 0, whichever half it gets
-pub landed-minus : (z d : ℤ) (r : ℕ) → ltZ z (pos 0) ≡ true → d ≡ quotZ z (pos (2 ^ 30)) → shrZ (d *ℤ pos r +ℤ pos (2 ^ 29 - 1)) (2 ^ 30) ≡ mulDivOf d (pos r) (2 ^ 30)
+landed-minus : (z d : ℤ) (r : ℕ) → ltZ z (pos 0) ≡ true → d ≡ quotZ z (pos (2 ^ 30)) → shrZ (d *ℤ pos r +ℤ pos (2 ^ 29 - 1)) (2 ^ 30) ≡ mulDivOf d (pos r) (2 ^ 30)
 landed-minus z (negsuc n) r t e = shifted-minus (negsuc n) r refl
 landed-minus z (pos zero) r t e =
     let f : (0 * r + (2 ^ 29 - 1)) / 2 ^ 30 ≡ (0 * r + 2 ^ 29) / 2 ^ 30 = omega arith in
@@ -111,7 +108,7 @@ landed-minus (negsuc m) (pos (suc n)) r t e =
     let f : suc n ≡ 0 = ap up e ∙ up-neg (pos (suc m / 2 ^ 30)) in
     absurd (omega (arith, f))
 
-pub landed-plus : (z d : ℤ) (r : ℕ) → ltZ z (pos 0) ≡ false → d ≡ quotZ z (pos (2 ^ 30)) → shrZ (d *ℤ pos r +ℤ pos (2 ^ 29)) (2 ^ 30) ≡ mulDivOf d (pos r) (2 ^ 30)
+landed-plus : (z d : ℤ) (r : ℕ) → ltZ z (pos 0) ≡ false → d ≡ quotZ z (pos (2 ^ 30)) → shrZ (d *ℤ pos r +ℤ pos (2 ^ 29)) (2 ^ 30) ≡ mulDivOf d (pos r) (2 ^ 30)
 landed-plus (negsuc m) d r t e = absurd (true≢false t)
 landed-plus (pos m) d r t e = shifted-plus d r (rw e (le-ltb (m / 2 ^ 30) 0 (omega arith)))
 
@@ -139,13 +136,13 @@ module _ (z : ℤ) (h : Size (2 ^ 60) z) where
   pub upper-back : (r : ℤ) → shrZ r (2 ^ 32) ≡ quotZ (bits z) (pos (2 ^ 30)) → SFits w64 r → bits (shrZ (bits r) (2 ^ 32)) ≡ quotZ z (pos (2 ^ 30))
   upper-back r e f = rw (back f, back (shifted-fits (2 ^ 32) f)) (rw wide-back at e)
 
--- c * 2 ^ 30 + (z + h), shifted down
-pub centre-back : {c : ℤ} → Size (2 ^ 28) c → bits c ≡ c
+centre-back : {c : ℤ} → Size (2 ^ 28) c → bits c ≡ c
 centre-back h = back (size-fits (2 ^ 28) w64 _ h tt)
 
 pub centre-small : {c : ℤ} → Size (2 ^ 28) c → Size (2 ^ 28) (bits c)
 centre-small h = rw (centre-back h) h
 
+-- c * 2 ^ 30 + (z + h), shifted down
 module _ (c z h : ℤ) (hc : Size (2 ^ 28) c) (hz : Size (2 ^ 60) z) (hh : Size (2 ^ 60) h) where
   centre-size : Size (2 ^ 58) (c *ℤ pos (2 ^ 30))
   centre-size = size-mul (2 ^ 28) (2 ^ 30) c (pos (2 ^ 30)) hc (record { size = omega arith })
