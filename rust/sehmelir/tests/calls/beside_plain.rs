@@ -325,8 +325,8 @@ fn counts_by_leaps() {
     }
 }
 
-/// The same of paths at many scales. `PATHS` in the environment is how many, if
-/// they should be more than a few.
+/// The same of paths at many scales, some of which have no edges. `PATHS` in the
+/// environment is how many, if they should be more than a few.
 #[test]
 fn holds_whole_arcs_of_any_path() {
     let paths = std::env::var("PATHS").map_or(60, |count| count.parse().unwrap());
@@ -337,7 +337,9 @@ fn holds_whole_arcs_of_any_path() {
         let path = long_path(&mut maker, count);
         let needed = needed(plain::calls::draw(path.as_flattened(), grade, &mut []));
         assert_eq!(draw(path.as_flattened(), grade, 4 * needed).reply, 0);
-        assert_eq!(draw(path.as_flattened(), grade, 4 * needed - 1).reply, 5);
+        if needed > 0 {
+            assert_eq!(draw(path.as_flattened(), grade, 4 * needed - 1).reply, 5);
+        }
     }
 }
 
