@@ -20,13 +20,13 @@ use Rattle.number.specs.MulDiv.{nearestOf, roundedOf, mulDivOf}
 use Rattle.plane.specs.Vectors.{sameNumber, samePoint, squareOf}
 use Rattle.plane.specs.Directions.{UnitLong, scaledOf}
 use Rattle.plane.specs.Within.{lessOf, Within}
-use Rattle.plane.proofs.Products.{bits, back, short-fits, near-fits}
+use Rattle.plane.proofs.Products.{bits, back, short-fits, near-fits, small-fits}
 use Rattle.plane.proofs.Directions.{unit-short}
 use Rattle.plane.specs.declared.Vector.{Vector}
 use Rattle.arc.specs.Bounds.{Radius, Turns}
 use Rattle.arc.specs.Landings.{Lowest, Highest, Passes, Meets, Misses, Hits}
 use Rattle.arc.specs.declared.Turning.{Turning}
-use Rattle.arc.proofs.Limits.{told, small-fits, radius-back, radius-natural}
+use Rattle.arc.proofs.Limits.{told, radius-back, radius-natural}
 use Rattle.arc.proofs.Rays.{same-self, same-is}
 use Rattle.arc.proofs.Distinct.{gap-fits, and-false}
 

@@ -7,12 +7,12 @@ use lib.Signed.{mag, quotZ, yes-nonNeg, pos-natAbs}
 use mir.Syntax.{w64}
 use mir.Val.{SFits}
 use Rattle.whole.specs.Sizes.{Size}
-use Rattle.whole.proofs.Sizes.{size-add, size-fits}
+use Rattle.whole.proofs.Sizes.{size-add}
 use Rattle.whole.proofs.Order.{minus-is, abs-minus}
 use Rattle.number.specs.MulDiv.{mulDivOf}
 use Rattle.plane.specs.Vectors.{Near}
 use Rattle.plane.specs.Directions.{UnitLong, rotatedOf, scaledOf, swingOf, headingOf, Swings}
-use Rattle.plane.proofs.Products.{bits, back, size-back, short-fits, near-fits}
+use Rattle.plane.proofs.Products.{bits, back, short-fits, near-fits, small-fits}
 use Rattle.plane.proofs.Directions.{unit-short, turned-unit, scaled-most}
 use Rattle.plane.proofs.Swinging.{heading-swing, swing-reach}
 use Rattle.plane.specs.declared.Point.{Point}
@@ -26,12 +26,6 @@ pub told : {z v : ℤ} → mag z < 2 ^ 63 → z ≡ v → bits z ≡ v
 told h e = back (record { sfits = h }) ∙ e
 
 -- ---- a coordinate or an offset of at most 2 ^ 28
-
-pub small-fits : {a : ℤ} → Size (2 ^ 28) a → SFits w64 a
-small-fits h = size-fits (2 ^ 28) w64 _ h tt
-
-pub small-back : {a : ℤ} → Size (2 ^ 28) a → Size (2 ^ 28) (bits a)
-small-back h = size-back (small-fits h) h
 
 pub sum-near : {a b : ℤ} → Size (2 ^ 28) a → Size (2 ^ 28) b → Size (2 ^ 29) (a +ℤ b)
 sum-near h k = size-add (2 ^ 28) (2 ^ 28) _ _ h k

@@ -40,6 +40,9 @@ short-fits h = size-fits (2 ^ 30) w64 _ h tt
 pub near-fits : {a : ℤ} → Size (2 ^ 29) a → SFits w64 a
 near-fits h = size-fits (2 ^ 29) w64 _ h tt
 
+pub small-fits : {a : ℤ} → Size (2 ^ 28) a → SFits w64 a
+small-fits h = size-fits (2 ^ 28) w64 _ h tt
+
 -- a number that went through its bits and back
 abbrev pub bits : ℤ → ℤ
 bits a = toZ w64 (ofZ w64 a)
@@ -55,6 +58,9 @@ short-back h = size-back (short-fits h) h
 
 pub near-back : {a : ℤ} → Size (2 ^ 29) a → Size (2 ^ 29) (bits a)
 near-back h = size-back (near-fits h) h
+
+pub small-back : {a : ℤ} → Size (2 ^ 28) a → Size (2 ^ 28) (bits a)
+small-back h = size-back (small-fits h) h
 
 -- the way between two near points is short
 pub from-to-short : {p q : Point} → Near p → Near q → Short (fromTo p q)

@@ -14,7 +14,7 @@ use Rattle.whole.proofs.Sizes.{size-add, size-mul, size-fits, quot-fits}
 use Rattle.number.specs.MulDiv.{mulDivOf}
 use Rattle.plane.specs.Vectors.{Short}
 use Rattle.plane.specs.Directions.{UnitLong, rotatedOf, swingOf, headingOf, Swings}
-use Rattle.plane.proofs.Products.{bits, back, sum-fits, difference-fits}
+use Rattle.plane.proofs.Products.{bits, back, small-fits, sum-fits, difference-fits}
 use Rattle.plane.proofs.Turns.{first-is, second-is}
 use Rattle.plane.proofs.Norms.{most-product, most-first, most-second}
 use Rattle.plane.proofs.Leeway.{unit-most}
@@ -136,39 +136,33 @@ module _ (z : ℤ) (h : Size (2 ^ 60) z) where
   pub upper-back : (r : ℤ) → shrZ r (2 ^ 32) ≡ quotZ (bits z) (pos (2 ^ 30)) → SFits w64 r → bits (shrZ (bits r) (2 ^ 32)) ≡ quotZ z (pos (2 ^ 30))
   upper-back r e f = rw (back f, back (shifted-fits (2 ^ 32) f)) (rw wide-back at e)
 
-centre-back : {c : ℤ} → Size (2 ^ 28) c → bits c ≡ c
-centre-back h = back (size-fits (2 ^ 28) w64 _ h tt)
-
-pub centre-small : {c : ℤ} → Size (2 ^ 28) c → Size (2 ^ 28) (bits c)
-centre-small h = rw (centre-back h) h
-
 -- c * 2 ^ 30 + (z + h), shifted down
 module _ (c z h : ℤ) (hc : Size (2 ^ 28) c) (hz : Size (2 ^ 60) z) (hh : Size (2 ^ 60) h) where
   centre-size : Size (2 ^ 58) (c *ℤ pos (2 ^ 30))
   centre-size = size-mul (2 ^ 28) (2 ^ 30) c (pos (2 ^ 30)) hc (record { size = omega arith })
 
   pub centre-fits : SFits w64 (bits c *ℤ pos (2 ^ 30))
-  centre-fits = rw (centre-back hc) (size-fits (2 ^ 58) w64 _ centre-size tt)
+  centre-fits = rw (back (small-fits hc)) (size-fits (2 ^ 58) w64 _ centre-size tt)
 
   pub offset-fits : SFits w64 (bits z +ℤ bits h)
   offset-fits = rw (wide-back z hz, wide-back h hh) (size-fits (2 ^ 61) w64 _ (size-add (2 ^ 60) (2 ^ 60) z h hz hh) tt)
 
   pub moved-fits : SFits w64 (bits (bits c *ℤ pos (2 ^ 30)) +ℤ bits (bits z +ℤ bits h))
   moved-fits =
-      rw (back centre-fits, back offset-fits, centre-back hc, wide-back z hz, wide-back h hh)
+      rw (back centre-fits, back offset-fits, back (small-fits hc), wide-back z hz, wide-back h hh)
       (size-fits (2 ^ 58 + 2 ^ 61) w64 _ (size-add (2 ^ 58) (2 ^ 61) _ _ centre-size (size-add (2 ^ 60) (2 ^ 60) z h hz hh)) tt)
 
   pub lowered-back : bits (shrZ (bits (bits (bits c *ℤ pos (2 ^ 30)) +ℤ bits (bits z +ℤ bits h))) (2 ^ 30)) ≡ c +ℤ shrZ (z +ℤ h) (2 ^ 30)
   lowered-back =
-      rw (back moved-fits, back (shift-fits moved-fits), back centre-fits, back offset-fits, centre-back hc, wide-back z hz, wide-back h hh)
+      rw (back moved-fits, back (shift-fits moved-fits), back centre-fits, back offset-fits, back (small-fits hc), wide-back z hz, wide-back h hh)
       (shift-past c (z +ℤ h))
 
 -- where a swing lands: p is the product, q what the code has moved by it
 module _ (c z d : ℤ) (r : ℕ) (hc : Size (2 ^ 28) c) (e : d ≡ quotZ z (pos (2 ^ 30))) (h : natAbs d ≤ 2 ^ 30) (k : r ≤ 2 ^ 28) (f : SFits w64 z) where
   pub landed-minus-back : {p q : ℤ} → p ≡ bits d *ℤ toZ w64 r → ltZ (bits z) (pos 0) ≡ true → q ≡ bits c +ℤ shrZ (bits p +ℤ pos (2 ^ 29 - 1)) (2 ^ 30) → SFits w64 q
       → bits q ≡ c +ℤ mulDivOf d (pos r) (2 ^ 30)
-  landed-minus-back u t v i = back i ∙ v ∙ rw (centre-back hc, product-is d r h k u, landed-minus z d r (rw (back f) at t) e)
+  landed-minus-back u t v i = back i ∙ v ∙ rw (back (small-fits hc), product-is d r h k u, landed-minus z d r (rw (back f) at t) e)
 
   pub landed-plus-back : {p q : ℤ} → p ≡ bits d *ℤ toZ w64 r → ltZ (bits z) (pos 0) ≡ false → q ≡ bits c +ℤ shrZ (bits p +ℤ pos (2 ^ 29)) (2 ^ 30) → SFits w64 q
       → bits q ≡ c +ℤ mulDivOf d (pos r) (2 ^ 30)
-  landed-plus-back u t v i = back i ∙ v ∙ rw (centre-back hc, product-is d r h k u, landed-plus z d r (rw (back f) at t) e)
+  landed-plus-back u t v i = back i ∙ v ∙ rw (back (small-fits hc), product-is d r h k u, landed-plus z d r (rw (back f) at t) e)

@@ -2,7 +2,8 @@
 use borrow.Author.Needs.{needs}
 use native.Mathlib.Omega.{arith}
 use lib.Signed.{yes-nonNeg}
-use Rattle.arc.proofs.Limits.{small-back, radius-back, offset-small, moved-back}
+use Rattle.plane.proofs.Products.{small-back}
+use Rattle.arc.proofs.Limits.{radius-back, offset-small, moved-back}
 use Rattle.arc.proofs.landing.coordinate.Statement.{statement}
 use Rattle.arc.proofs.landing.coordinate.Tie as tie
 

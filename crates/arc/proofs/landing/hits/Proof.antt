@@ -1,7 +1,7 @@
 -- `arc::landing::hits` meets its contract: both coordinates must be met. Assumes nothing.
-use Rattle.plane.proofs.Products.{short-back}
+use Rattle.plane.proofs.Products.{short-back, small-back}
 use Rattle.plane.proofs.Directions.{unit-short}
-use Rattle.arc.proofs.Limits.{small-back, radius-told}
+use Rattle.arc.proofs.Limits.{radius-told}
 use Rattle.arc.proofs.Landed.{hits-both, hits-none}
 use Rattle.arc.proofs.landing.hits.Statement.{statement}
 use Rattle.arc.proofs.landing.hits.Tie as tie

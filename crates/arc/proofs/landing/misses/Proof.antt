@@ -1,7 +1,7 @@
 -- `arc::landing::misses` meets its contract: one coordinate that is missed will do. Assumes nothing.
-use Rattle.plane.proofs.Products.{short-back}
+use Rattle.plane.proofs.Products.{short-back, small-back}
 use Rattle.plane.proofs.Directions.{unit-short}
-use Rattle.arc.proofs.Limits.{small-back, radius-told}
+use Rattle.arc.proofs.Limits.{radius-told}
 use Rattle.arc.proofs.Landed.{misses-x, misses-y}
 use Rattle.arc.proofs.landing.misses.Statement.{statement}
 use Rattle.arc.proofs.landing.misses.Tie as tie

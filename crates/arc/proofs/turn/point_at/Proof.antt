@@ -1,9 +1,9 @@
 -- `arc::turn::point_at` meets its contract: an offset is at most the radius, so each coordinate fits. Assumes nothing.
 use native.Mathlib.Omega.{arith}
 use lib.Signed.{yes-nonNeg}
-use Rattle.plane.proofs.Products.{short-back}
+use Rattle.plane.proofs.Products.{short-back, small-back}
 use Rattle.plane.proofs.Directions.{unit-short}
-use Rattle.arc.proofs.Limits.{small-back, radius-back, offset-small, point-back}
+use Rattle.arc.proofs.Limits.{radius-back, offset-small, point-back}
 use Rattle.arc.proofs.turn.point_at.Statement.{statement}
 use Rattle.arc.proofs.turn.point_at.Tie as tie
 

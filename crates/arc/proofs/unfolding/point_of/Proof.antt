@@ -2,9 +2,9 @@
 use borrow.Author.Needs.{needs}
 use native.Mathlib.Omega.{arith}
 use lib.Signed.{yes-nonNeg}
-use Rattle.plane.proofs.Products.{short-back}
+use Rattle.plane.proofs.Products.{short-back, small-back}
 use Rattle.plane.proofs.Directions.{unit-short}
-use Rattle.arc.proofs.Limits.{small-back, radius-back, heading-x, heading-y, point-landed}
+use Rattle.arc.proofs.Limits.{radius-back, heading-x, heading-y, point-landed}
 use Rattle.arc.proofs.unfolding.point_of.Statement.{statement}
 use Rattle.arc.proofs.unfolding.point_of.Tie as tie
 

@@ -1,8 +1,9 @@
 -- `plane::rotation::landed` meets its contract: the whole coordinate goes past the shift, and the rest is what `scaled` gives. Assumes nothing.
 use borrow.Author.Needs.{needs}
 use native.Mathlib.Omega.{arith}
+use Rattle.plane.proofs.Products.{small-back}
 use Rattle.plane.proofs.Shifts.{part-short, radius-short, product-size}
-use Rattle.plane.proofs.Swinging.{centre-small, landed-minus-back, landed-plus-back}
+use Rattle.plane.proofs.Swinging.{landed-minus-back, landed-plus-back}
 use Rattle.plane.proofs.rotation.landed.Statement.{statement}
 use Rattle.plane.proofs.rotation.landed.Tie as tie
 
@@ -15,7 +16,7 @@ times-requires c κs = (part-short (c .args .d) _ (c .pre .2) (c .pre .3), radiu
 lowered-requires : tie.Need-lowered-requires
 lowered-requires c κs =
     let s = c .before .before in
-    (centre-small (s .pre .0), product-size (s .args .d) _ (s .pre .2) (s .pre .3) (c .before .times .ensures), record { size = omega arith })
+    (small-back (s .pre .0), product-size (s .args .d) _ (s .pre .2) (s .pre .3) (c .before .times .ensures), record { size = omega arith })
 
 returns : tie.Need-returns
 returns c =
@@ -25,7 +26,7 @@ returns c =
 lowered-requires-2 : tie.Need-lowered-requires-2
 lowered-requires-2 c κs =
     let s = c .before .before in
-    (centre-small (s .pre .0), product-size (s .args .d) _ (s .pre .2) (s .pre .3) (c .before .times .ensures), record { size = omega arith })
+    (small-back (s .pre .0), product-size (s .args .d) _ (s .pre .2) (s .pre .3) (c .before .times .ensures), record { size = omega arith })
 
 returns-2 : tie.Need-returns-2
 returns-2 c =
