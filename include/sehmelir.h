@@ -25,7 +25,7 @@
  * give. A STORE is memory that begins with an outline; what stands after the
  * outline is neither looked at nor, unless the outline grows over it, changed.
  *
- * Lent memory, for all four calls:
+ * Lent memory, for all calls:
  *
  * - Lengths count elements: int32_t in a path or in edges, bytes in a store.
  * - A pointer is never null and is aligned for its type, even where the length
@@ -47,8 +47,8 @@
  *
  * The calls allocate nothing, keep nothing between calls, and may run in
  * several threads at once. On the stack sehmelir_draw takes up to 528 KiB, and
- * sehmelir_keep, sehmelir_read and sehmelir_replace up to 256 KiB, so a thread
- * that calls them needs more than that.
+ * sehmelir_keep, sehmelir_read, sehmelir_replace and sehmelir_reach up to
+ * 256 KiB, so a thread that calls them needs more than that.
  *
  * It is proved of each call that its reply and all lent memory afterwards are
  * what the rules give. The proof rests on memory being lent as said above.
@@ -205,6 +205,45 @@ struct sehmelir_reply sehmelir_read(const uint8_t *store, size_t store_len,
 struct sehmelir_reply sehmelir_replace(uint8_t *store, size_t store_len,
                                        size_t index, int32_t x, int32_t y,
                                        int32_t radius);
+
+/*
+ * Tells how far replacing the vertex of the given index, counted from 0, can
+ * reach in a sound outline. Let j be the first vertex at index + 2 or later
+ * that is reached by a step that is drawn or broken. Whatever vertex
+ * sehmelir_replace puts there, the edges drawn on reaching each vertex before
+ * the index stay as they are, and so do those of each vertex after j and those
+ * drawn at the end, unless j is the last vertex or there is none.
+ *
+ * A step from one vertex to the next is broken if the square of the difference
+ * of their radii is not below the square of their distance; else it is drawn
+ * if the larger radius is at least 2; else it is thin.
+ *
+ * The first of these that applies is the reply:
+ *
+ *     6 SEHMELIR_NOT_OUTLINE  store_len is below 24, or the edition is not 1
+ *                             number: 0
+ *     7 SEHMELIR_KIND         the kind is not 0
+ *                             number: the kind
+ *     3 SEHMELIR_GRADE        the grade in the store is not 1 to 8
+ *                             number: that grade
+ *     2 SEHMELIR_TOO_MANY     the store says that it has above 4,096 vertices
+ *                             number: the vertices
+ *     6 SEHMELIR_NOT_OUTLINE  store_len is below the bytes that the vertices
+ *                             and edges in the header ask for
+ *                             number: 0
+ *     4 SEHMELIR_OUTSIDE      a vertex in the store lies outside the limits
+ *                             number: the index of the first such vertex
+ *     8 SEHMELIR_NOT_SOUND    the outline is not what its own vertices and
+ *                             grade give
+ *                             number: the index of the first byte that differs
+ *     9 SEHMELIR_NO_VERTEX    the index is not below the vertices
+ *                             number: the index
+ *     0 SEHMELIR_DONE         number: j, or the vertices where there is none
+ *
+ * The store is only read. Takes up to 256 KiB of stack.
+ */
+struct sehmelir_reply sehmelir_reach(const uint8_t *store, size_t store_len,
+                                     size_t index);
 
 #ifdef __cplusplus
 }

@@ -1,6 +1,7 @@
 /*
- * The four calls from C, on one path: document 01's example 5. One line for
- * each check; the exit status is 1 if one of them fails.
+ * The calls from C, on one path: document 01's example 5, and how far a vertex
+ * reaches on a few more. One line for each check; the exit status is 1 if one
+ * of them fails.
  */
 #include "sehmelir.h"
 
@@ -214,7 +215,44 @@ static void check_replace(void) {
           "the outline is again what keep gave, and nothing else changed");
 }
 
-/* The outline with one word changed: read and replace refuse it alike. */
+/* How far a vertex of a path reaches that is kept in a store. */
+static void check_reach_of(const int32_t *numbers, size_t count, size_t index,
+                           uint64_t reached, const char *what) {
+    static uint8_t store[4096];
+    sehmelir_keep(numbers, count, 1, store, sizeof store);
+    check_reply(sehmelir_reach(store, sizeof store, index), SEHMELIR_DONE,
+                reached, 0, what);
+}
+
+static void check_reach(void) {
+    struct bytes store, same;
+    fill(&store, sizeof store);
+    put_outline(store.lent);
+    same = store;
+
+    check_reply(sehmelir_reach(store.lent, OUTLINE + SPARE, 0), SEHMELIR_DONE,
+                2, 0, "reach of the first of two vertices");
+    check_reply(sehmelir_reach(store.lent, OUTLINE, 1), SEHMELIR_DONE, 2, 0,
+                "reach of the last vertex");
+    check_reply(sehmelir_reach(store.lent, OUTLINE, 2), SEHMELIR_NO_VERTEX, 2,
+                0, "reach of a third vertex");
+    check_reply(sehmelir_reach(store.lent, OUTLINE, SIZE_MAX),
+                SEHMELIR_NO_VERTEX, SIZE_MAX, 0, "reach of the largest index");
+    check_reply(sehmelir_reach(store.lent, OUTLINE - 1, 0),
+                SEHMELIR_NOT_OUTLINE, 0, 0, "reach in a store one byte short");
+    check(memcmp(&store, &same, sizeof store) == 0,
+          "reach leaves the store as it was");
+
+    static const int32_t drawn[12] = {0, 0, 5, 20, 0, 5, 40, 0, 5, 60, 0, 5};
+    check_reach_of(drawn, 12, 1, 3, "reach past a drawn step");
+    static const int32_t broken[9] = {0, 0, 5, 20, 0, 1, 20, 0, 1};
+    check_reach_of(broken, 9, 0, 2, "reach past a broken step");
+    static const int32_t thin[12] = {0, 0, 5, 20, 0, 1, 40, 0, 1, 60, 0, 5};
+    check_reach_of(thin, 12, 0, 3, "reach over a thin step");
+    check_reach_of(thin, 9, 0, 3, "reach where only a thin step follows");
+}
+
+/* The outline with one word changed: read, replace, reach refuse it alike. */
 static void check_damaged(int place, int32_t word, uint32_t reply,
                           uint64_t number, const char *what) {
     struct bytes store, damaged;
@@ -230,6 +268,8 @@ static void check_damaged(int place, int32_t word, uint32_t reply,
                 number, 0, what);
     check_reply(sehmelir_replace(store.lent, OUTLINE, 0, 0, 0, 1), reply,
                 number, 0, "  and replace refuses it alike");
+    check_reply(sehmelir_reach(store.lent, OUTLINE, 9), reply, number, 0,
+                "  and so does reach");
     check(memcmp(&store, &damaged, sizeof store) == 0 &&
               memcmp(&out, &same, sizeof out) == 0,
           "  and nothing is changed");
@@ -259,6 +299,7 @@ int main(void) {
     check_keep();
     check_read();
     check_replace();
+    check_reach();
     check_damage();
     puts(failed ? "tests/c: FAILED" : "tests/c: all checks hold");
     return failed;

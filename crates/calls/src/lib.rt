@@ -1,6 +1,7 @@
-// The calls with room of their own: a path's edges, its kept outline, the path of an outline, and another vertex in one.
+// The calls with room of their own: a path's edges, its kept outline, the path of an outline, another vertex in one, and how far that reaches.
 use variable_stroke::Vertex;
 ghost use Rattle.outline.specs.Answers.{Draws, Keeps, Reads, Replaces};
+ghost use Rattle.reaching.specs.Replies.{Reaches};
 
 // Draws a path's edges into lent numbers, four an edge.
 pub fn draw(path: &[i32], grade: u32, out: &mut [i32]) -> outline::Drawn
@@ -38,4 +39,13 @@ pub fn replace(store: &mut [u8], index: usize, x: i32, y: i32, radius: i32) -> o
         radius: radius as i64,
     };
     outline::replacing::replace_with(store, index, v, &mut path, &mut own)
+}
+
+// Tells how far replacing a vertex of a sound outline can reach.
+pub fn reach(store: &[u8], index: usize) -> reaching::Reached
+    ensures { λ r. ⌜ Reaches (now (store .entry)) index r ⌝ }
+{
+    let mut path = [0i32; 12288];
+    let mut own = [0i32; 36908];
+    reaching::reach::reach_with(store, index, &mut path, &mut own)
 }

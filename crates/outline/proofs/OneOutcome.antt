@@ -18,7 +18,7 @@ use Rattle.outline.specs.declared.Replaced.{Replaced}
 use Rattle.outline.specs.declared.Replaced.the-variants as replaced
 
 -- the answer that has a reply, for any type of answers: `done` for 0, else the refusal
-from : {A : Type 0} → (ℕ → A) → (Refusal → A) → ℕ → ℕ → A
+unfoldable pub from : {A : Type 0} → (ℕ → A) → (Refusal → A) → ℕ → ℕ → A
 from done refused k n = elim (eqb k 0) [
   | true ↦ done n
   | false ↦ refused (elim (eqb k 1) [
@@ -39,7 +39,7 @@ from done refused k n = elim (eqb k 0) [
   ])
 ]
 
-from-refusal : {A : Type 0} (done : ℕ → A) (refused : Refusal → A) (r : Refusal) → from done refused (refusalOf r .0) (refusalOf r .1) ≡ refused r
+pub from-refusal : {A : Type 0} (done : ℕ → A) (refused : Refusal → A) (r : Refusal) → from done refused (refusalOf r .0) (refusalOf r .1) ≡ refused r
 unfolding from refusalOf
 from-refusal done refused (NotTriples n) = refl
 from-refusal done refused (TooMany n) = refl

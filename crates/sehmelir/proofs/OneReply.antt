@@ -2,7 +2,7 @@
 use mathlib.Core.Path.{_≡_, sym, _∙_}
 use Prim.Native.Nat.{ℕ}
 use Rattle.outline.specs.Replies.{Reply as Answer}
-use Rattle.sehmelir.specs.Boundary.{Replies, OneDrawReply, OneKeepReply, OneReadReply, OneReplaceReply}
+use Rattle.sehmelir.specs.Boundary.{Replies, OneDrawReply, OneKeepReply, OneReadReply, OneReplaceReply, OneReachReply}
 use Rattle.sehmelir.specs.declared.Reply.{Reply}
 
 one-reply : (t : Answer) (g : ℕ) (r q : Reply) → Replies r t g → Replies q t g → r ≡ q
@@ -20,3 +20,6 @@ one-read-reply s out r q o p a b = (one-reply _ _ r q (a .replies) (b .replies),
 
 pub one-replace-reply : OneReplaceReply
 one-replace-reply s k v r q o p a b = (one-reply _ _ r q (a .replies) (b .replies), a .store ∙ sym (b .store))
+
+pub one-reach-reply : OneReachReply
+one-reach-reply s k r q a b = one-reply _ _ r q (a .replies) (b .replies)

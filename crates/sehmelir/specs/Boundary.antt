@@ -1,4 +1,5 @@
--- The calls as numbers: the promises of outline/specs/Answers.antt, through the definition that gives each answer its number.
+-- The calls as numbers: the promises of outline/specs/Answers.antt and reaching/specs/Replies.antt, through the definition that gives each answer its
+-- number.
 use mathlib.Core.Path.{_≡_}
 use mathlib.Core.List.{List}
 use Prim.Native.Nat.{ℕ}
@@ -6,6 +7,7 @@ use lib.IntN.{ℤ}
 use lib.ListN.{length}
 use Rattle.variable_stroke.specs.declared.Vertex.{Vertex}
 use Rattle.outline.specs.Replies.{Reply as Answer, drawReply, drawOut, keepReply, keepOut, readReply, readGrade, readOut, replaceReply, replaceOut}
+use Rattle.reaching.specs.Replies.{reachReply}
 use Rattle.sehmelir.specs.declared.Reply.{Reply}
 
 -- document 01's reply and number, and a grade beside them
@@ -34,6 +36,10 @@ pub record ReplaceReplies (store₀ : List ℕ) (index : ℕ) (v : Vertex) (r : 
   pub replies : Replies r (replaceReply store₀ index v) 0
   pub store : store₁ ≡ replaceOut store₀ index v
 
+-- reach: reply and number; the store is only read
+pub record ReachReplies (store : List ℕ) (index : ℕ) (r : Reply) : Type 0 where
+  pub replies : Replies r (reachReply store index) 0
+
 -- Document 01, "Promises and hollow programs": two outcomes that a call's promise allows coincide.
 abbrev pub OneDrawReply : Type 0
 OneDrawReply = (path : List ℤ) (g : ℕ) (out : List ℤ) (r q : Reply) (o p : List ℤ) → DrawReplies path g out r o → DrawReplies path g out q p → (r ≡ q) × (o ≡ p)
@@ -46,3 +52,6 @@ OneReadReply = (s : List ℕ) (out : List ℤ) (r q : Reply) (o p : List ℤ) �
 
 abbrev pub OneReplaceReply : Type 0
 OneReplaceReply = (s : List ℕ) (k : ℕ) (v : Vertex) (r q : Reply) (o p : List ℕ) → ReplaceReplies s k v r o → ReplaceReplies s k v q p → (r ≡ q) × (o ≡ p)
+
+abbrev pub OneReachReply : Type 0
+OneReachReply = (s : List ℕ) (k : ℕ) (r q : Reply) → ReachReplies s k r → ReachReplies s k q → r ≡ q

@@ -4,9 +4,11 @@ use outline::Kept;
 use outline::Read;
 use outline::Refusal;
 use outline::Replaced;
+use reaching::Reached;
 ghost use mathlib.Core.Path.{_≡_};
 ghost use Rattle.outline.specs.Answers.{refusalOf, replyOfDrawn, replyOfKept, replyOfRead, gradeOfRead, replyOfReplaced};
-ghost use Rattle.sehmelir.specs.Boundary.{Replies, DrawReplies, KeepReplies, ReadReplies, ReplaceReplies};
+ghost use Rattle.reaching.specs.Replies.{replyOfReached};
+ghost use Rattle.sehmelir.specs.Boundary.{Replies, DrawReplies, KeepReplies, ReadReplies, ReplaceReplies, ReachReplies};
 
 // Document 01's reply, the grade beside it (of a read outline, else 0), and the number with it.
 #[repr(C)]
@@ -88,6 +90,16 @@ fn replaced(answer: Replaced) -> Reply
     }
 }
 
+// What asking for a reach came to, as a reply.
+fn reached(answer: Reached) -> Reply
+    ensures { λ p. ⌜ Replies p (replyOfReached answer) 0 ⌝ }
+{
+    match answer {
+        Reached::To(j) => plain(0, j as u64),
+        Reached::Refused(r) => refusal(r),
+    }
+}
+
 // Draws a path's edges into lent numbers, four an edge.
 #[no_mangle]
 pub extern "C" fn sehmelir_draw(path: &[i32], grade: u32, out: &mut [i32]) -> Reply
@@ -124,4 +136,12 @@ pub extern "C" fn sehmelir_replace(
     ensures { λ p. ⌜ ReplaceReplies (now (store .entry)) index (record { x = x; y = y; radius = radius }) p (now (store .exit)) ⌝ }
 {
     replaced(calls::replace(store, index, x, y, radius))
+}
+
+// Tells how far replacing a vertex of a sound outline can reach.
+#[no_mangle]
+pub extern "C" fn sehmelir_reach(store: &[u8], index: usize) -> Reply
+    ensures { λ p. ⌜ ReachReplies (now (store .entry)) index p ⌝ }
+{
+    reached(calls::reach(store, index))
 }

@@ -1,8 +1,9 @@
-//! Document 01, the four calls and "Replies, tested in this order".
+//! Document 01, the four calls and "Replies, tested in this order"; and, in the
+//! same replies, how far replacing a vertex shows.
 //!
 //! "A refusal changes no lent memory."
 
-use crate::chains::walk;
+use crate::chains::{self, walk};
 use crate::contacts::Vertex;
 use crate::outline::{first_difference, put, vertices, words, Header, EDITION, KIND, LEAST_BYTES};
 
@@ -80,6 +81,15 @@ fn lent_path(numbers: &[i32], grade: u32) -> Result<Vec<Vertex>, Reply> {
     let path: Vec<Vertex> = numbers.chunks_exact(3).map(vertex).collect();
     tested_limits(&path)?;
     Ok(path)
+}
+
+/// Replies: 9, "index not below n", with the "index".
+fn tested_index(index: usize, path: &[Vertex]) -> Result<(), Reply> {
+    if index < path.len() {
+        Ok(())
+    } else {
+        Err(Reply::new(9, index as u64))
+    }
 }
 
 /// What reading and replacing find in a sound outline.
@@ -176,9 +186,7 @@ pub fn replace(store: &mut [u8], index: usize, x: i32, y: i32, radius: i32) -> R
             mut path,
             length: old,
         } = kept_path(store)?;
-        if index >= path.len() {
-            return Err(Reply::new(9, index as u64));
-        }
+        tested_index(index, &path)?;
         path[index] = Vertex::new(x as i64, y as i64, radius as i64);
         if !path[index].allowed() {
             return Err(Reply::new(4, index as u64));
@@ -191,5 +199,17 @@ pub fn replace(store: &mut [u8], index: usize, x: i32, y: i32, radius: i32) -> R
             store[length..old].fill(0);
         }
         Ok(Reply::new(0, length as u64))
+    })
+}
+
+/// Demand 3 as a call: replace's refusals of the store and of the index, else
+/// the vertex up to which replacing the one at `index` shows, or how many
+/// vertices there are where no vertex ends it.
+pub fn reach(store: &[u8], index: usize) -> Reply {
+    settle(|| {
+        let Kept { path, .. } = kept_path(store)?;
+        tested_index(index, &path)?;
+        let reach = chains::reach(&path, index).unwrap_or(path.len());
+        Ok(Reply::new(0, reach as u64))
     })
 }

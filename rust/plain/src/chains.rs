@@ -201,6 +201,13 @@ pub fn walk(path: &[Vertex], grade: u32) -> Drawing {
     Drawing { edges, counts }
 }
 
+/// Demand 3: how far replacing vertex `k` shows: "the first point at k + 2 or
+/// later that is reached by a step that is drawn or broken", if there is one.
+pub fn reach(path: &[Vertex], k: usize) -> Option<usize> {
+    let settles = |j: &usize| matches!(kind(path[j - 1], path[*j]), Kind::Drawn | Kind::Broken);
+    (k + 2..path.len()).find(settles)
+}
+
 /// The bodies of a path: for each vertex the edges emitted on reaching it, and
 /// last the closing body.
 pub fn bodies(path: &[Vertex], grade: u32) -> Vec<Vec<Edge>> {

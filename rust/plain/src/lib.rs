@@ -8,7 +8,8 @@
 //! * [`arcs`] holds "Arcs"
 //! * [`chains`] holds "Chains"
 //! * [`outline`] holds "The kept outline"
-//! * [`calls`] holds the four calls and "Replies, tested in this order"
+//! * [`calls`] holds the four calls, "Replies, tested in this order", and how
+//!   far replacing a vertex shows
 //! * [`random`] holds the generator behind the tests and the lists of cases
 
 pub mod arcs;

@@ -3,8 +3,8 @@
 mod common;
 
 use common::{kept, numbers, random_path, random_scale, random_vertex, vertices};
-use plain::calls::{draw, keep, read, replace, Reply};
-use plain::chains::bodies;
+use plain::calls::{draw, keep, reach, read, replace, Reply};
+use plain::chains::{self, bodies};
 use plain::contacts::{kind, Kind};
 use plain::random::Random;
 
@@ -120,7 +120,9 @@ fn replacing_shows_only_near_by() {
         let (old, new) = (bodies(&path, grade), bodies(&other, grade));
         assert_eq!(old[..k], new[..k]);
         let kind = |j: usize| kind(path[j - 1], path[j]);
-        let Some(j) = (k + 2..n).find(|&j| kind(j) != Kind::Thin) else {
+        let reach = chains::reach(&path, k);
+        assert_eq!(reach, (k + 2..n).find(|&j| kind(j) != Kind::Thin));
+        let Some(j) = reach else {
             continue;
         };
         compared += 1;
@@ -130,6 +132,38 @@ fn replacing_shows_only_near_by() {
         }
     }
     assert!(compared > 5_000);
+}
+
+/// The reach as a call: by hand, where a thin run puts it off, where a broken
+/// step ends it, and where no vertex does.
+#[test]
+fn reach_of_a_store() {
+    let (wide, thin) = ((0, 0, 9), (100, 0, 1));
+    let far = |x: i32, radius: i32| (x, 0, radius);
+    let table: [(&[_], usize, Reply); 11] = [
+        (&[], 0, Reply::new(9, 0)),
+        (&[wide], 0, Reply::new(0, 1)),
+        (&[wide], 1, Reply::new(9, 1)),
+        (&[wide, thin], 0, Reply::new(0, 2)),
+        (&[wide, far(50, 9), far(90, 9)], 0, Reply::new(0, 2)),
+        (&[wide, far(50, 9), far(90, 9)], 1, Reply::new(0, 3)),
+        (&[wide, far(50, 9), far(90, 9)], 2, Reply::new(0, 3)),
+        (&[wide, thin, far(200, 0), far(300, 1)], 0, Reply::new(0, 4)),
+        (&[wide, thin, far(200, 0), far(300, 2)], 0, Reply::new(0, 3)),
+        (&[wide, thin, far(200, 0), far(200, 0)], 0, Reply::new(0, 3)),
+        (&[wide, thin, thin, far(300, 5)], 0, Reply::new(0, 2)),
+    ];
+    for (path, index, expected) in table {
+        let mut store = kept(path, 2);
+        assert_eq!(reach(&store, index), expected, "{path:?} {index}");
+        let last = store.len() - 1;
+        store[last] ^= 1;
+        let refused = replace(&mut store, index, 0, 0, 0);
+        assert_eq!(reach(&store, index), refused, "{path:?} {index}");
+    }
+    assert_eq!(reach(&[], 0), Reply::new(6, 0));
+    let store = kept(&[wide], 1);
+    assert_eq!(reach(&store, usize::MAX), Reply::new(9, u64::MAX));
 }
 
 #[test]

@@ -59,6 +59,8 @@ extern "C" {
         y: i32,
         radius: i32,
     ) -> Reply;
+
+    fn sehmelir_reach(store: *const u8, store_len: usize, index: usize) -> Reply;
 }
 
 // SAFETY, of every call below: the archive asks for pointers that are not null
@@ -97,4 +99,8 @@ pub fn read(store: &[u8], out: &mut [i32]) -> Reply {
 
 pub fn replace(store: &mut [u8], index: usize, x: i32, y: i32, radius: i32) -> Reply {
     unsafe { sehmelir_replace(store.as_mut_ptr(), store.len(), index, x, y, radius) }
+}
+
+pub fn reach(store: &[u8], index: usize) -> Reply {
+    unsafe { sehmelir_reach(store.as_ptr(), store.len(), index) }
 }

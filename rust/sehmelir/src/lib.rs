@@ -144,6 +144,46 @@ pub fn replace(
     foreign::replace(store, index, x, y, radius).number()
 }
 
+/// How far replacing a vertex of a sound outline can reach: returns j, the
+/// first vertex at `index + 2` or later that is reached by a drawn or a broken
+/// step, or the number of vertices where there is none.
+///
+/// Whatever vertex [`replace`] puts in its place, the bodies before `index` stay
+/// as they are, byte for byte, and so do those after j, the closing one among
+/// them, unless j is the last vertex or there is none. A step is thin only
+/// where both radii are below 2; almost every step is drawn or broken.
+///
+/// ```
+/// let hedge = [0, 0, 5, 20, 0, 5, 40, 0, 5, 60, 0, 5];
+/// let store = sehmelir::outline(&hedge, 1)?;
+/// assert_eq!(sehmelir::reach(&store, 0)?, 2);
+/// assert_eq!(sehmelir::reach(&store, 1)?, 3);
+/// assert_eq!(sehmelir::reach(&store, 2)?, 4);
+///
+/// // the step to vertex 2 is thin
+/// let store = sehmelir::outline(&[0, 0, 5, 20, 0, 1, 40, 0, 1, 60, 0, 5], 1)?;
+/// assert_eq!(sehmelir::reach(&store, 0)?, 3);
+/// # Ok::<(), sehmelir::Refusal>(())
+/// ```
+///
+/// # Refusals
+///
+/// Those of [`read`] up to [`NotSound`](Refusal::NotSound), then
+/// [`NoVertex`](Refusal::NoVertex).
+///
+/// ```
+/// use sehmelir::{outline, reach, Refusal};
+///
+/// let store = outline(&[0, 0, 1], 1)?;
+/// assert_eq!(reach(&store, 0), Ok(1));
+/// assert_eq!(reach(&store, 1), Err(Refusal::NoVertex(1)));
+/// assert_eq!(reach(&[], 0), Err(Refusal::NotOutline));
+/// # Ok::<(), Refusal>(())
+/// ```
+pub fn reach(store: &[u8], index: usize) -> Result<usize, Refusal> {
+    foreign::reach(store, index).number()
+}
+
 /// A path's edges in memory of their own: [`draw`] without a room.
 ///
 /// ```

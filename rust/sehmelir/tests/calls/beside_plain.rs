@@ -4,6 +4,7 @@
 use crate::lent::{self, room};
 use crate::making::{Maker, Path};
 use plain::calls::Reply;
+use plain::contacts::Vertex;
 use sehmelir::Refusal;
 
 /// How many generated cases each call is compared on.
@@ -90,6 +91,13 @@ fn replace(store: &[u8], index: usize, vertex: [i32; 3]) -> (Reply, Vec<u8>) {
     (reply, expected)
 }
 
+fn reach(store: &[u8], index: usize) -> Reply {
+    let reply = plain::calls::reach(store, index);
+    let answered = lent::reach(store, index);
+    assert_eq!(answered, answer(reply), "reach {store:?} {index}");
+    reply
+}
+
 /// How many edges or bytes a call needs, 0 if it is refused anyhow.
 fn needed(reply: Reply) -> usize {
     match reply.reply {
@@ -167,6 +175,67 @@ fn replaces() {
     tally.assert_just(&[0, 2, 3, 4, 5, 6, 7, 8, 9]);
 }
 
+#[test]
+fn reaches() {
+    let (mut maker, mut tally) = (Maker::new(8), Tally::default());
+    for _ in 0..CASES {
+        let path = maker.path(VERTICES);
+        let store = store(&mut maker, &path);
+        tally.count(reach(&store, maker.index(path.len())));
+    }
+    tally.assert_just(&[0, 2, 3, 4, 6, 7, 8, 9]);
+}
+
+/// Every vertex of paths in which thin steps follow one another, so that the
+/// vertex after the next is often passed over, a few vertices on reached, and
+/// now and then none; and what the reach says cannot change does not.
+#[test]
+fn reaches_past_thin_steps() {
+    let mut maker = Maker::new(10);
+    let (mut next, mut beyond, mut none) = (0, 0, 0);
+    for _ in 0..CASES / 5 {
+        let (mut path, grade) = (maker.path(VERTICES), maker.grade());
+        for vertex in &mut path {
+            vertex[2] = maker.pick(&[0, 1, 1, 1, vertex[2]]);
+        }
+        let (store, count) = (outline(&path, grade), path.len());
+        for index in 0..count {
+            let reply = reach(&store, index);
+            assert_eq!(reply.reply, 0);
+            let reached = reply.number as usize;
+            assert!(reached <= count && (reached == count || reached >= index + 2));
+            match reached {
+                _ if reached == count => none += 1,
+                _ if reached == index + 2 => next += 1,
+                _ => beyond += 1,
+            }
+            assert_stays(&mut maker, &path, grade, index, reached);
+        }
+        for index in [count, count + 1, usize::MAX] {
+            assert_eq!(reach(&store, index), Reply::new(9, index as u64));
+        }
+    }
+    assert!(next > 500 && beyond > 500 && none > 500);
+}
+
+/// That with another vertex at an index the bodies before it stay, and those
+/// after the one that it reaches to, unless that is the last.
+fn assert_stays(maker: &mut Maker, path: &Path, grade: u32, index: usize, reached: usize) {
+    let mut other = path.clone();
+    other[index] = maker.vertex();
+    let (old, new) = (bodies(path, grade), bodies(&other, grade));
+    assert_eq!(old[..index], new[..index]);
+    if reached + 1 < path.len() {
+        assert_eq!(old[reached + 1..], new[reached + 1..]);
+    }
+}
+
+fn bodies(path: &Path, grade: u32) -> Vec<Vec<[i32; 4]>> {
+    let vertex = |&[x, y, radius]: &[i32; 3]| Vertex::new(x as i64, y as i64, radius as i64);
+    let vertices: Vec<Vertex> = path.iter().map(vertex).collect();
+    plain::chains::bodies(&vertices, grade)
+}
+
 /// One store through many replacements: it stays what keep gives for the path
 /// as it then is, and what stands after it stays too, but for what it grew
 /// over and the zeros where it shrank.
@@ -213,6 +282,7 @@ fn every_damaged_byte() {
                 store[at] ^= change;
                 let (read, _) = (read(&store, 3 * path.len()), replace(&store, 0, [0, 0, 1]));
                 assert!(read.reply != 0 || !has_edges);
+                reach(&store, 0);
             }
         }
     }
@@ -225,6 +295,7 @@ fn every_cut_store() {
         for length in 0..sound.len() {
             assert_eq!(read(&sound[..length], 3 * path.len()).reply, 6);
             assert_eq!(replace(&sound[..length], 0, [0, 0, 1]).0.reply, 6);
+            assert_eq!(reach(&sound[..length], 0).reply, 6);
         }
     }
 }
@@ -369,6 +440,7 @@ fn long_paths() {
         store.resize(store.len() + 100_000, 0xEE);
         for index in [0, 1, count / 2, count - 1] {
             assert_eq!(replace(&store, index, [5, -5, 100]).0.reply, 0);
+            assert_eq!(reach(&store, index).reply, 0);
         }
     }
 }

@@ -1,6 +1,6 @@
 //! Document 01, "Marked examples, grade 1".
 
-use crate::lent::{draw, keep, read, replace, room};
+use crate::lent::{draw, keep, reach, read, replace, room};
 use sehmelir::{edges, outline, Refusal};
 
 /// A path, and how many edges each vertex and the closing have.
@@ -133,6 +133,25 @@ fn replace_gives_the_outline_of_the_changed_path() {
             outline_before = expected;
         }
     }
+}
+
+/// Demand 3 on the examples: every step of theirs is drawn or broken, but for
+/// the one of example 10.
+#[test]
+fn reach_gives_the_vertex_after_the_next() {
+    for (path, _) in EXAMPLES {
+        let store = outline(path.as_flattened(), 1).unwrap();
+        for index in 0..path.len() {
+            let expected = path.len().min(index + 2);
+            assert_eq!(reach(&store, index), Ok(expected), "{path:?}");
+        }
+        let refused = Err(Refusal::NoVertex(path.len()));
+        assert_eq!(reach(&store, path.len()), refused, "{path:?}");
+    }
+    let thin = [0, 0, 5, 20, 0, 1, 40, 0, 1, 60, 0, 0, 60, 0, 0, 80, 0, 1];
+    let store = outline(&thin, 1).unwrap();
+    let reached: Vec<usize> = (0..6).map(|index| reach(&store, index).unwrap()).collect();
+    assert_eq!(reached, [4, 4, 4, 6, 6, 6]);
 }
 
 #[test]

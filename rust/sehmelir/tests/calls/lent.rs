@@ -1,4 +1,4 @@
-//! The four calls on memory between canaries.
+//! The calls on memory between canaries.
 
 use sehmelir::Refusal;
 use std::fmt::Debug;
@@ -67,4 +67,8 @@ pub fn read(store: &[u8], room: &[i32]) -> Outcome<(usize, u32), i32> {
 
 pub fn replace(store: &[u8], index: usize, [x, y, radius]: [i32; 3]) -> Outcome<usize, u8> {
     lend(store, |store| sehmelir::replace(store, index, x, y, radius))
+}
+
+pub fn reach(store: &[u8], index: usize) -> Result<usize, Refusal> {
+    lend_to_read(store, |store| sehmelir::reach(store, index))
 }

@@ -33,7 +33,7 @@ impl Maker {
     }
 
     /// A vertex of any size within the limits.
-    fn vertex(&mut self) -> [i32; 3] {
+    pub fn vertex(&mut self) -> [i32; 3] {
         let (side, radius) = self.random.pick(&[(9, 6), (100, 40), (MOST, MOST)]);
         self.within(side, radius)
     }

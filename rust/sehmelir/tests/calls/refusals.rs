@@ -2,7 +2,7 @@
 //! each with as many of the later ones as can hold beside it. No refusal
 //! changes lent memory.
 
-use crate::lent::{draw, keep, read, replace, room, Outcome};
+use crate::lent::{draw, keep, reach, read, replace, room, Outcome};
 use sehmelir::{outline, Refusal};
 use std::error::Error;
 use std::fmt::Debug;
@@ -101,6 +101,9 @@ fn of_stores() {
         }
         assert_refused(replace(&store, 7, [FAR, 0, 0]), &store, expected);
         assert_refused(replace(&store, 0, [0, 0, 1]), &store, expected);
+        for index in [0, 7] {
+            assert_eq!(reach(&store, index), Err(expected));
+        }
     }
 }
 
@@ -121,6 +124,16 @@ fn of_replacements() {
         let longer = [&store, room(400).as_slice()].concat();
         assert_refused(replace(&longer, index, vertex), &longer, expected);
     }
+}
+
+#[test]
+fn of_reaches() {
+    let store = outline(&[0, 0, 1, 50, 0, 1], 1).unwrap();
+    for index in [2, 3, 4096, 1 << 32, usize::MAX] {
+        assert_eq!(reach(&store, index), Err(Refusal::NoVertex(index)));
+    }
+    let empty = outline(&[], 8).unwrap();
+    assert_eq!(reach(&empty, 0), Err(Refusal::NoVertex(0)));
 }
 
 #[test]

@@ -1,12 +1,12 @@
 //! How much stack the calls take.
 
-use sehmelir::{draw, keep, read, replace, Refusal};
+use sehmelir::{draw, keep, reach, read, replace, Refusal};
 use std::thread::Builder;
 
 /// What draw may take, and some for the thread that calls it.
 const FOR_DRAW: usize = (528 + 32) * 1024;
 
-/// What keep, read and replace may take, and as much for the thread.
+/// What keep, read, replace and reach may take, and as much for the thread.
 const FOR_OTHERS: usize = (256 + 32) * 1024;
 
 /// Each call in a thread whose stack is hardly larger than what it is said to
@@ -35,6 +35,7 @@ fn is_at_most_what_is_said() {
             assert!(replace(&mut store, vertices / 2, 7, 8, 9).is_ok());
             let mut numbers = vec![0; path.len()];
             assert_eq!(read(&store, &mut numbers), Ok((vertices, grade)));
+            assert_eq!(reach(&store, 0), Ok(2));
         });
     }
 }

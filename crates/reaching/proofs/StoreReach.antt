@@ -1,0 +1,72 @@
+-- What the call replies: of a store that its rows refuse, and of one that passed them. Assumes nothing.
+use mathlib.Core.Path.{_≡_, sym, ap, _∙_}
+use mathlib.Core.List.{List, [], _∷_}
+use Prim.Native.Nat.{ℕ, _*_, _≤_, _<_}
+use native.Mathlib.Omega.{arith}
+use borrow.Author.Tests.{le-leb, lt-leb}
+use lib.IntN.{ℤ}
+use lib.ListN.{length, take, length-take}
+use Rattle.variable_stroke.specs.Limits.{firstOutside}
+use Rattle.variable_stroke.specs.Paths.{pathOf}
+use Rattle.variable_stroke.proofs.PathWalk.{path-count}
+use Rattle.outline.specs.Stores.{pathIn}
+use Rattle.outline.specs.Replies.{Reply, firstRow, indexRow}
+use Rattle.outline.specs.Answers.{refusalOf}
+use Rattle.outline.specs.StoreChecks.{StoreSays}
+use Rattle.outline.specs.declared.Refusal.{Refusal}
+use Rattle.outline.specs.declared.Refusal.the-variants.{NoVertex}
+use Rattle.outline.specs.declared.check.Header.{Header}
+use Rattle.outline.specs.declared.check.Checked.{Checked}
+use Rattle.outline.specs.declared.check.Checked.the-variants as checked
+use Rattle.outline.proofs.Shown.{path-back}
+use Rattle.outline.proofs.StoreReads.{store-refuses, store-passes, header-count}
+use Rattle.outline.proofs.KnownStore.{known}
+use Rattle.outline.proofs.NewVertex.{known-few}
+use Rattle.reaching.specs.Steps.{reachedOf}
+use Rattle.reaching.specs.Replies.{reachReply, replyOfReached, Reaches}
+use Rattle.reaching.specs.declared.Reached.{Reached}
+use Rattle.reaching.specs.declared.Reached.the-variants.{To, Refused}
+
+-- ---- the row of the index
+
+pub index-refused : (n k : ℕ) (last : Reply) → n ≤ k → replyOfReached (Refused (NoVertex k)) ≡ firstRow (indexRow n k ∷ []) last
+unfolding replyOfReached refusalOf firstRow indexRow
+index-refused n k last h = rw (le-leb n k h, firstRow)
+
+index-passed : (n k : ℕ) (last : Reply) → k < n → last ≡ firstRow (indexRow n k ∷ []) last
+unfolding firstRow indexRow
+index-passed n k last h = rw (lt-leb n k h, firstRow)
+
+-- ---- a path of n vertices at the front of the numbers p: e is what the code has for how many numbers that is
+
+module _ (n k : ℕ) (p : List ℤ) {e : ℕ} (f : e ≡ 3 * n) (few : k < n) where
+  pub front-held : 3 * n ≤ length p → firstOutside (pathOf (take (3 * n) p)) ≡ n
+      → (k < n) × (n ≡ length (pathOf (take e p))) × (firstOutside (pathOf (take e p)) ≡ length (pathOf (take e p)))
+  front-held h o =
+      let c : n ≡ length (pathOf (take (3 * n) p)) = omega (arith, path-count (take (3 * n) p), length-take (3 * n) p) in
+      rw f (few, c, o ∙ c)
+
+  pub front-told : {j : ℕ} → j ≡ reachedOf (pathOf (take e p)) k → replyOfReached (To j) ≡ firstRow (indexRow n k ∷ []) (0, reachedOf (pathOf (take (3 * n) p)) k)
+  unfolding replyOfReached
+  front-told g = ap (λ (j : ℕ). (0, j)) (rw f at g) ∙ index-passed n k (0, reachedOf (pathOf (take (3 * n) p)) k) few
+
+-- ---- the store
+
+pub reach-refused : {s : List ℕ} {p : List ℤ} {c : Checked} {r : Refusal} (k : ℕ) → c ≡ checked.Refused r → StoreSays s p c → Reaches s k (Refused r)
+unfolding replyOfReached reachReply
+reach-refused k e a = record { reply = store-refuses _ _ a e }
+
+module _ {s : List ℕ} {p : List ℤ} {c : Checked} {h : Header} (e : c ≡ checked.Holds h) (a : StoreSays s p c) where
+  -- the store's path is what stands at the front of the numbers
+  path-shown : pathOf (take (3 * h .n) p) ≡ pathIn s
+  path-shown = ap pathOf (a .path h e) ∙ path-back (pathIn s)
+
+  path-counted : h .n ≡ length (pathIn s)
+  path-counted = header-count (a .sound h e .head)
+
+  pub path-held : (3 * h .n ≤ length p) × (firstOutside (pathOf (take (3 * h .n) p)) ≡ h .n)
+  path-held = (known-few (known e a) .1, ap firstOutside path-shown ∙ a .sound h e .within .inside ∙ sym path-counted)
+
+  pub reach-passed : {r : Reached} (k : ℕ) → replyOfReached r ≡ firstRow (indexRow (h .n) k ∷ []) (0, reachedOf (pathOf (take (3 * h .n) p)) k) → Reaches s k r
+  unfolding reachReply
+  reach-passed k f = record { reply = rw (path-shown, path-counted) at f ∙ sym (store-passes _ _ (a .sound h e)) }

@@ -1,0 +1,61 @@
+-- What the number with reply 0 says: no row held, so it is the path's own, and the reach where that lies in the path. Assumes nothing.
+use mathlib.Core.Path.{_≡_, refl, sym, ap, _∙_}
+use mathlib.Core.Bool.{Bool, true, false}
+use mathlib.Core.List.{List, [], _∷_, _++_, append-nil}
+use Prim.Native.Nat.{ℕ, _≤_, _<_}
+use native.Mathlib.Omega.{arith}
+use borrow.Author.Tests.{ltb-true, ltb-false}
+use lib.Dec.{ltb}
+use lib.ListN.{length}
+use Rattle.variable_stroke.specs.Local.{reachOf}
+use Rattle.variable_stroke.specs.declared.Vertex.{Vertex}
+use Rattle.outline.specs.Stores.{pathIn}
+use Rattle.outline.specs.Replies.{Reply, Row, firstRow, editionRow, kindRow, gradeRow, countRow, lengthRow, outsideRow, soundRow, indexRow, storeRows}
+use Rattle.outline.proofs.ReadBack.{first-skip}
+use Rattle.outline.proofs.Changed.{first-none}
+use Rattle.outline.proofs.ThroughCalls.{bytes-kept}
+use Rattle.reaching.specs.Steps.{reachedOf}
+use Rattle.reaching.specs.Replies.{reachReply}
+use Rattle.reaching.specs.Theorems.{NumberIsFirst, NumberKeeps}
+use Rattle.reaching.proofs.FirstSettled.{reach-is-first}
+
+number-is : (s : List ℕ) (k j : ℕ) → reachReply s k ≡ (0, j) → j ≡ reachedOf (pathIn s) k
+unfolding reachReply storeRows editionRow kindRow gradeRow countRow lengthRow outsideRow soundRow indexRow firstRow
+number-is s k j e =
+    let rows : List Row = storeRows s ++ (indexRow (length (pathIn s)) k ∷ []) in
+    let last : Reply = (0, reachedOf (pathIn s) k) in
+    let none = first-none rows last (refl, (refl, (refl, (refl, (refl, (refl, (refl, (refl, tt)))))))) (ap (λ (r : Reply). r .0) e) in
+    let f : firstRow rows last ≡ last = ap (λ (l : List Row). firstRow l last) (sym (append-nil rows)) ∙ first-skip rows [] last none in
+    ap (λ (r : Reply). r .1) (sym e ∙ f)
+
+-- which is the lesser of the reach and the number of vertices
+lesser : (vs : List Vertex) (k : ℕ) → (reachedOf vs k ≤ length vs) × (reachedOf vs k ≤ reachOf vs k) × (reachedOf vs k < length vs → reachedOf vs k ≡ reachOf vs k)
+unfolding reachedOf
+lesser vs k = go (ltb (reachOf vs k) (length vs)) refl
+  where
+    of : Bool → ℕ
+    of x = elim x [ true ↦ reachOf vs k | false ↦ length vs ]
+
+    go : (x : Bool) → ltb (reachOf vs k) (length vs) ≡ x → (of x ≤ length vs) × (of x ≤ reachOf vs k) × (of x < length vs → of x ≡ reachOf vs k)
+    go true t = (omega (arith, ltb-true (reachOf vs k) (length vs) t), omega arith, λ l. refl)
+    go false t = (omega arith, ltb-false (reachOf vs k) (length vs) t, λ l. absurd (omega arith))
+
+pub number-is-first : NumberIsFirst
+number-is-first s k j e =
+    let f = number-is s k j e in
+    let g = lesser (pathIn s) k in
+    let r = reach-is-first (pathIn s) k in (
+      omega arith,
+      λ i l m. r .1 i l (omega arith),
+      λ l. let h : j ≡ reachOf (pathIn s) k = f ∙ g .2 (omega arith) in (omega (arith, r .0), rw h (r .2 (omega arith))),
+    )
+
+pub number-keeps : NumberKeeps
+number-keeps s k j v e h =
+    let kept = bytes-kept s k v h in (
+      kept .0,
+      λ l i m n.
+          let f = number-is s k j e in
+          let r : j ≡ reachOf (pathIn s) k = f ∙ lesser (pathIn s) k .2 (omega arith) in
+          kept .1 (omega arith) i (omega arith) n,
+    )

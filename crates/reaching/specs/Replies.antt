@@ -1,0 +1,24 @@
+-- Document 01, "Replies, tested in this order", for the call that tells how far a replaced vertex reaches: replace's rows of the store and the index.
+use mathlib.Core.Path.{_≡_}
+use mathlib.Core.List.{List, [], _∷_, _++_}
+use Prim.Native.Nat.{ℕ}
+use lib.ListN.{length}
+use Rattle.outline.specs.Stores.{pathIn}
+use Rattle.outline.specs.Replies.{Reply, firstRow, indexRow, storeRows}
+use Rattle.outline.specs.Answers.{refusalOf}
+use Rattle.reaching.specs.Steps.{reachedOf}
+use Rattle.reaching.specs.declared.Reached.{Reached}
+use Rattle.reaching.specs.declared.Reached.the-variants.{To, Refused}
+
+-- 6, 7, 3, 2, 6, 4, 8 of the store, 9 of the index; else 0 with demand 3's j, or with the number of vertices where there is none.
+unfoldable pub reachReply : List ℕ → ℕ → Reply
+reachReply s k = firstRow (storeRows s ++ (indexRow (length (pathIn s)) k ∷ [])) (0, reachedOf (pathIn s) k)
+
+-- document 01's number and value for each case of the answer
+unfoldable pub replyOfReached : Reached → Reply
+replyOfReached (To j) = (0, j)
+replyOfReached (Refused r) = refusalOf r
+
+-- the promise: reply and number; the store is only read
+pub record Reaches (store : List ℕ) (index : ℕ) (answer : Reached) : Type 0 where
+  pub reply : replyOfReached answer ≡ reachReply store index

@@ -1,0 +1,18 @@
+-- Demand 3 (README.md; stated in variable_stroke/specs/Local.antt): the vertex that a change reaches to, as a number of its path.
+use mathlib.Core.Bool.{Bool, true, false}
+use mathlib.Core.List.{List}
+use Prim.Native.Nat.{ℕ, _-_}
+use lib.Dec.{ltb}
+use lib.ListN.{length, getD}
+use Rattle.variable_stroke.specs.Contacts.{kindOf}
+use Rattle.variable_stroke.specs.Paths.{none}
+use Rattle.variable_stroke.specs.Local.{settles, reachOf}
+use Rattle.variable_stroke.specs.declared.Vertex.{Vertex}
+
+-- Document 01, "Three kinds of step": whether vertex i is reached by a step that is drawn or broken.
+unfoldable pub settledTo : List Vertex → ℕ → Bool
+settledTo vs i = settles (kindOf (getD vs (i - 1) none) (getD vs i none))
+
+-- Demand 3's j for vertex k, or the number of vertices where there is none.
+unfoldable pub reachedOf : List Vertex → ℕ → ℕ
+reachedOf vs k = elim (ltb (reachOf vs k) (length vs)) [ true ↦ reachOf vs k | false ↦ length vs ]

@@ -1,0 +1,40 @@
+// reach: how far another vertex in the path of a kept outline can reach.
+use crate::Reached;
+use crate::walk::reached;
+use outline::Refusal;
+use outline::check::Checked;
+use outline::check::check;
+ghost use mathlib.Core.Path.{_≡_};
+ghost use mathlib.Core.List.{[], _∷_};
+ghost use Prim.Native.Nat.{_*_, _≤_};
+ghost use lib.ListN.{length, take};
+ghost use Rattle.variable_stroke.specs.Limits.{firstOutside};
+ghost use Rattle.variable_stroke.specs.Paths.{pathOf};
+ghost use Rattle.outline.specs.Replies.{firstRow, indexRow};
+ghost use Rattle.reaching.specs.Steps.{reachedOf};
+ghost use Rattle.reaching.specs.Replies.{replyOfReached, Reaches};
+
+// The row of the index, and the reach, over the path of n vertices at the front of `path`.
+fn reach_in(path: &[i32], n: usize, index: usize) -> Reached
+    requires { ⌜ (3 * n ≤ length (now path)) × (firstOutside (pathOf (take (3 * n) (now path))) ≡ n) ⌝ }
+    ensures { λ r. ⌜ replyOfReached r ≡ firstRow (indexRow n index ∷ []) (0, reachedOf (pathOf (take (3 * n) (now (path .entry)))) index) ⌝ }
+{
+    if n <= index {
+        return Reached::Refused(Refusal::NoVertex(index));
+    }
+    let numbers = 3 * n;
+    let j = reached(&path[0..numbers], n, index);
+    Reached::To(j)
+}
+
+// How far another vertex at an index can reach; `path` and `own` are room to check the store in.
+pub fn reach_with(store: &[u8], index: usize, path: &mut [i32], own: &mut [i32]) -> Reached
+    requires { ⌜ (12288 ≤ length (now path)) × (36908 ≤ length (now own)) ⌝ }
+    ensures { λ r. ⌜ Reaches (now (store .entry)) index r ⌝ }
+{
+    let checked = check(store, path, own);
+    match checked {
+        Checked::Refused(r) => Reached::Refused(r),
+        Checked::Holds(h) => reach_in(path, h.n, index),
+    }
+}
