@@ -1,4 +1,4 @@
-//! Finds the proved library's archive, or builds it, and links it.
+//! Finds the proved library's archive, or has it built, and links it.
 
 use std::env;
 use std::path::{Path, PathBuf};
@@ -7,9 +7,12 @@ use std::process::{exit, Command};
 const ARCHIVE: &str = "libsehmelir.a";
 const DIRECTORY_VARIABLE: &str = "SEHMELIR_ARCHIVE_DIR";
 
+/// What the archive is made of and by, from the repository's root on.
+const SOURCES: [&str; 3] = ["crates", "crates.txt", "tools/archive"];
+
 fn main() {
     println!("cargo:rerun-if-env-changed={DIRECTORY_VARIABLE}");
-    match right_target().and_then(|()| archive_directory()) {
+    match archive_directory() {
         Ok(directory) => {
             let (directory, archive) = (directory.display(), directory.join(ARCHIVE));
             println!("cargo:rerun-if-changed={}", archive.display());
@@ -23,19 +26,8 @@ fn main() {
     }
 }
 
-/// Whether the archive can be linked into what is being built.
-fn right_target() -> Result<(), String> {
-    let of_target = |name: &str| env::var(format!("CARGO_CFG_TARGET_{name}")).unwrap_or_default();
-    match (of_target("ARCH").as_str(), of_target("OS").as_str()) {
-        ("x86_64", "linux") => Ok(()),
-        (machine, system) => Err(format!(
-            "{ARCHIVE} is x86-64 only, for Linux: it cannot be linked for {machine} {system}."
-        )),
-    }
-}
-
 /// The directory that holds the archive: the one that the environment names,
-/// or the repository's own, where the archive is built if it is not there yet.
+/// or the repository's own, where `tools/archive` keeps it up to date.
 fn archive_directory() -> Result<PathBuf, String> {
     if let Some(named) = env::var_os(DIRECTORY_VARIABLE) {
         let directory = Path::new(&named).canonicalize().unwrap_or(named.into());
@@ -47,35 +39,44 @@ fn archive_directory() -> Result<PathBuf, String> {
             )),
         };
     }
+    own_target()?;
     let root = Path::new("../..").canonicalize();
     let root = root.map_err(|error| format!("The repository's root is not found: {error}."))?;
-    let directory = root.join("target/staticlib");
-    if !directory.join(ARCHIVE).is_file() {
-        build(&root)?;
+    for source in SOURCES {
+        println!("cargo:rerun-if-changed={}", root.join(source).display());
     }
-    Ok(directory)
+    build(&root)
 }
 
-/// Builds the archive in the repository.
-fn build(root: &Path) -> Result<(), String> {
-    let why = match Command::new("rt")
-        .args(["staticlib", "sehmelir"])
-        .current_dir(root)
-        .output()
-    {
+/// Whether what is being built is for the machine at hand: the archive is.
+fn own_target() -> Result<(), String> {
+    match (env::var("TARGET"), env::var("HOST")) {
+        (Ok(target), Ok(host)) if target == host => Ok(()),
+        (target, host) => Err(format!(
+            "tools/archive compiles for this machine, {}, and not for {}: \
+             set {DIRECTORY_VARIABLE} to a directory that holds {ARCHIVE}.",
+            host.unwrap_or_default(),
+            target.unwrap_or_default()
+        )),
+    }
+}
+
+/// Has the archive built in the repository, where it must be; its directory.
+fn build(root: &Path) -> Result<PathBuf, String> {
+    let why = match Command::new(root.join("tools/archive")).output() {
         Err(error) => format!("it could not be started: {error}."),
-        Ok(output) if !output.status.success() => format!(
-            "it ended with {}:\n{}{}",
+        Ok(output) if output.status.success() => {
+            let printed = String::from_utf8_lossy(&output.stdout);
+            return Ok(PathBuf::from(printed.trim_end()));
+        }
+        Ok(output) => format!(
+            "it ended with {}:\n{}",
             output.status,
-            String::from_utf8_lossy(&output.stdout),
             String::from_utf8_lossy(&output.stderr)
         ),
-        Ok(_) if root.join("target/staticlib").join(ARCHIVE).is_file() => return Ok(()),
-        Ok(_) => format!("it left no target/staticlib/{ARCHIVE}."),
     };
     Err(format!(
-        "There is no target/staticlib/{ARCHIVE} in {}, and `rt staticlib sehmelir` did not build it there: {why}\n\
-         Install the Rattle kit so that `rt` is found, or set {DIRECTORY_VARIABLE} to a directory that holds {ARCHIVE}.",
-        root.display()
+        "tools/archive did not give {ARCHIVE}: {why}\n\
+         Install the Rattle kit so that `rt` is found, or set {DIRECTORY_VARIABLE} to a directory that holds {ARCHIVE}."
     ))
 }

@@ -74,8 +74,7 @@ fn code() -> (&'static str, &'static str) {
     }
     (
         "64-bit Arm",
-        "the archive's LLVM module, compiled for this machine for timing only;\n\
-         the archive itself is for x86-64",
+        "the archive that tools/archive compiles of the library's LLVM module",
     )
 }
 
