@@ -1,15 +1,11 @@
-//! What the repository's programs over sheets do, in plain Rust, for their tests: standard input to standard output, and on a refusal the reply and
-//! its number to standard error.
+//! What the repository's command does with sheets, in plain Rust, for its tests: standard input to standard output, and on a refusal the reply and its
+//! number to standard error.
 //!
 //! sheet keep GRADE | sheet draw GRADE | sheet read | sheet replace K X Y RADIUS
 
 use plain::calls::{draw, keep, read, replace, Reply};
 use std::io::{self, Read, Write};
 use std::process::ExitCode;
-
-/// The bytes and numbers that the programs have room for.
-const BYTES: usize = 245_760;
-const NUMBERS: usize = 131_072;
 
 /// The numbers of a path text. A `#` begins a comment.
 fn path(text: &[u8]) -> Vec<i32> {
@@ -41,45 +37,43 @@ fn rows(numbers: &[i32], width: usize) -> Vec<u8> {
     lines.collect::<String>().into_bytes()
 }
 
-/// What a program writes, or why it refuses.
-fn answer(words: &[&str], mut input: Vec<u8>) -> Option<Result<Vec<u8>, Reply>> {
-    let mut numbers = vec![0; NUMBERS];
-    let mut bytes = vec![0; BYTES];
-    let reply;
-    let output = match words {
+/// What a call writes into as many entries as it counts, `each` for one, when
+/// it is first lent some; or why it refuses.
+fn lent<T: Clone + Default>(
+    mut room: Vec<T>,
+    each: usize,
+    mut call: impl FnMut(&mut [T]) -> Reply,
+) -> Result<Vec<T>, Reply> {
+    let mut reply = call(&mut room);
+    if reply.reply == 5 {
+        room.resize(each * reply.number as usize, T::default());
+        reply = call(&mut room);
+    }
+    if reply.reply != 0 {
+        return Err(reply);
+    }
+    room.truncate(each * reply.number as usize);
+    Ok(room)
+}
+
+/// What the command writes, or why it refuses.
+fn answer(words: &[&str], input: Vec<u8>) -> Option<Result<Vec<u8>, Reply>> {
+    Some(match words {
         ["keep", grade] => {
-            reply = keep(&path(&input), grade.parse().ok()?, &mut bytes);
-            bytes.truncate(reply.number as usize);
-            bytes
+            let (path, grade) = (path(&input), grade.parse().ok()?);
+            lent(vec![], 1, |room| keep(&path, grade, room))
         }
         ["draw", grade] => {
-            reply = draw(&path(&input), grade.parse().ok()?, &mut numbers);
-            numbers.truncate(4 * reply.number as usize);
-            rows(&numbers, 4)
+            let (path, grade) = (path(&input), grade.parse().ok()?);
+            lent(vec![], 4, |room| draw(&path, grade, room)).map(|edges| rows(&edges, 4))
         }
-        ["read"] => {
-            reply = read(&input, &mut numbers);
-            numbers.truncate(3 * reply.number as usize);
-            rows(&numbers, 3)
-        }
+        ["read"] => lent(vec![], 3, |room| read(&input, room)).map(|path| rows(&path, 3)),
         ["replace", index, x, y, radius] => {
-            input.resize(BYTES, 0);
-            reply = replace(
-                &mut input,
-                index.parse().ok()?,
-                x.parse().ok()?,
-                y.parse().ok()?,
-                radius.parse().ok()?,
-            );
-            input.truncate(reply.number as usize);
-            input
+            let (index, x, y) = (index.parse().ok()?, x.parse().ok()?, y.parse().ok()?);
+            let radius = radius.parse().ok()?;
+            lent(input, 1, |room| replace(room, index, x, y, radius))
         }
         _ => return None,
-    };
-    Some(if reply.reply == 0 {
-        Ok(output)
-    } else {
-        Err(reply)
     })
 }
 

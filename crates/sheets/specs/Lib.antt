@@ -1,4 +1,0 @@
--- What the crate's contracts cite.
-pub mod Input
-pub mod PathText
-pub mod Taken

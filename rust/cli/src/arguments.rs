@@ -1,0 +1,102 @@
+//! The command line.
+
+use crate::destination::Destination;
+use clap::{Parser, Subcommand};
+use clap_complete::Shell;
+use std::path::PathBuf;
+
+const AFTER_HELP: &str = "\
+A path text has a vertex a line, three whole numbers: x y radius. Blank lines count for nothing,
+and neither does what follows a #. x and y are -268435456 to 268435456, a radius is 0 to 268435456,
+a path has at most 4096 vertices. Bytes that follow a sheet are passed over.
+
+Input comes from standard input, or from the file that is named. The result goes to standard
+output, or with -o to a file, which is written whole or not at all.
+
+Exit status: 0 and the result; or 1, why on standard error, and nothing on standard output.";
+
+/// Lines kept as points with a radius at each, and the boundary drawn about
+/// them
+#[derive(Parser)]
+#[command(name = "sehmelir", bin_name = "sehmelir", version, after_help = AFTER_HELP)]
+pub struct Arguments {
+    #[command(subcommand)]
+    pub command: Option<Command>,
+}
+
+/// What can be done. Numbers come as words: one that is none is refused in this
+/// command's own words.
+#[derive(Subcommand)]
+pub enum Command {
+    /// Keep a path as a sheet, its boundary drawn at a grade of 1 to 8
+    Keep {
+        /// How finely arcs are drawn: 1 to 8, 8 is the finest
+        #[arg(allow_negative_numbers = true)]
+        grade: String,
+        /// The path text, if not on standard input
+        path: Option<PathBuf>,
+        #[command(flatten)]
+        destination: Destination,
+    },
+    /// The path of a sheet, as text again
+    Read {
+        /// The sheet, if not on standard input
+        sheet: Option<PathBuf>,
+        #[command(flatten)]
+        destination: Destination,
+    },
+    /// The boundary of a path, an edge a line: x y of its start, x y of its end
+    Draw {
+        /// How finely arcs are drawn: 1 to 8, 8 is the finest
+        #[arg(allow_negative_numbers = true)]
+        grade: String,
+        /// The path text, if not on standard input
+        path: Option<PathBuf>,
+        #[command(flatten)]
+        destination: Destination,
+    },
+    /// A sheet with another vertex K; the first vertex is 0
+    Replace {
+        /// The number of the vertex, from 0 on
+        #[arg(value_name = "K", allow_negative_numbers = true)]
+        index: String,
+        /// Where it stands then, across
+        #[arg(allow_negative_numbers = true)]
+        x: String,
+        /// Where it stands then, upwards
+        #[arg(allow_negative_numbers = true)]
+        y: String,
+        /// Its radius then
+        #[arg(allow_negative_numbers = true)]
+        radius: String,
+        /// The sheet, if not on standard input
+        sheet: Option<PathBuf>,
+        #[command(flatten)]
+        destination: Destination,
+    },
+    /// What differs between two sheets, and what cannot
+    Changed {
+        /// The sheet before
+        before: PathBuf,
+        /// The sheet after
+        after: PathBuf,
+        #[command(flatten)]
+        destination: Destination,
+    },
+    /// A sheet as a picture (SVG), or two, what differs in a second colour
+    Picture {
+        /// The sheet, if not on standard input; or the sheet before
+        sheet: Option<PathBuf>,
+        /// The sheet after
+        after: Option<PathBuf>,
+        #[command(flatten)]
+        destination: Destination,
+    },
+    /// A hedge of nine hundred points, one gate post moved; writes hedge.svg here
+    Demo,
+    /// Completions of this command for a shell
+    Completions {
+        /// The shell that they are for
+        shell: Shell,
+    },
+}

@@ -1,0 +1,135 @@
+//! The library's calls in memory of their own. How much to lend first is a
+//! guess, which decides nothing but time: where it is too little, the call's
+//! own reply 5 says how much is needed. Memory that is asked for and never
+//! written costs nothing, so the guess is generous, and one call mostly enough.
+
+use crate::failure::Failure;
+use crate::memory::{lengthen, zeros};
+use crate::progress;
+use crate::sheet::length_told;
+use sehmelir::Refusal;
+
+/// The most vertices that a path may have: what a read lends room for.
+const MOST_VERTICES: usize = 4096;
+
+/// A path's boundary.
+pub fn draw(path: &[i32], grade: u32) -> Result<Vec<[i32; 4]>, Failure> {
+    let edges = likely_edges(path.len() / 3, grade);
+    progress::during("drawing", || {
+        with_room(edges, |room: &mut [[i32; 4]]| {
+            sehmelir::draw(path, grade, room.as_flattened_mut())
+        })
+    })
+}
+
+/// The sheet of a path.
+pub fn keep(path: &[i32], grade: u32) -> Result<Vec<u8>, Failure> {
+    let vertices = path.len() / 3;
+    let bytes = 24 + 16 * (vertices + likely_edges(vertices, grade));
+    progress::during("keeping", || {
+        with_room(bytes, |room| sehmelir::keep(path, grade, room))
+    })
+}
+
+/// The path of a sheet, and its grade.
+pub fn read(sheet: &[u8]) -> Result<(Vec<[i32; 3]>, u32), Failure> {
+    let mut grade = 0;
+    let path = progress::during("reading", || {
+        with_room(MOST_VERTICES, |room: &mut [[i32; 3]]| {
+            let (vertices, told) = sehmelir::read(sheet, room.as_flattened_mut())?;
+            grade = told;
+            Ok(vertices)
+        })
+    })?;
+    Ok((path, grade))
+}
+
+/// The sheet with another vertex. The memory that it stands in is lent with
+/// some room after it, but only if it is as long as its header says: room must
+/// not make a sheet whole that was cut short.
+pub fn replace(
+    mut sheet: Vec<u8>,
+    index: usize,
+    [x, y, radius]: [i32; 3],
+    grade_told: u32,
+) -> Result<Vec<u8>, Failure> {
+    if length_told(&sheet).is_some_and(|length| length <= sheet.len()) {
+        let bodies = 4;
+        lengthen(&mut sheet, 16 * likely_edges(bodies, grade_told))?;
+    }
+    progress::during("replacing", || {
+        let mut replaced = sehmelir::replace(&mut sheet, index, x, y, radius);
+        if let Err(Refusal::NoRoom(needed)) = replaced {
+            let more = needed.saturating_sub(sheet.len());
+            lengthen(&mut sheet, more)?;
+            replaced = sehmelir::replace(&mut sheet, index, x, y, radius);
+        }
+        sheet.truncate(replaced?);
+        Ok(sheet)
+    })
+}
+
+/// So many edges hold the boundary of most paths: sixteen a vertex at the
+/// first grade, and twice as many at each finer one.
+fn likely_edges(vertices: usize, grade: u32) -> usize {
+    vertices.min(MOST_VERTICES) * (8 << grade.min(8))
+}
+
+/// What a call writes, which it counts, in room enough for it.
+fn with_room<T: Clone + Default>(
+    guess: usize,
+    mut call: impl FnMut(&mut [T]) -> Result<usize, Refusal>,
+) -> Result<Vec<T>, Failure> {
+    let mut room = zeros(guess).unwrap_or_default();
+    let length = match call(&mut room) {
+        Err(Refusal::NoRoom(needed)) => {
+            room = zeros(needed)?;
+            call(&mut room)?
+        }
+        settled => settled?,
+    };
+    room.truncate(length);
+    Ok(room)
+}
+
+#[cfg(test)]
+mod tests {
+    use super::{keep, read, replace, with_room};
+    use crate::failure::Failure;
+    use sehmelir::Refusal;
+
+    #[test]
+    fn a_guess_that_is_too_short_changes_nothing() {
+        let fill = |room: &mut [u8]| match room.len() {
+            0..5 => Err(Refusal::NoRoom(5)),
+            _ => {
+                room[..5].fill(7);
+                Ok(5)
+            }
+        };
+        for guess in [0, 4, 5, 60] {
+            assert_eq!(with_room(guess, fill).unwrap(), [7; 5]);
+        }
+    }
+
+    #[test]
+    fn a_vertex_is_replaced_by_one_of_any_size() {
+        let sheet = keep(&[0, 0, 0], 8).unwrap();
+        for radius in [0, 10, 1 << 28] {
+            let replaced = replace(sheet.clone(), 0, [1, 2, radius], 8).unwrap();
+            assert_eq!(replaced, keep(&[1, 2, radius], 8).unwrap());
+            assert_eq!(read(&replaced).unwrap(), (vec![[1, 2, radius]], 8));
+        }
+    }
+
+    #[test]
+    fn room_makes_no_sheet_whole_that_was_cut_short() {
+        let mut sheet = keep(&[0, 0, 10], 1).unwrap();
+        sheet.pop();
+        let refused = replace(sheet, 0, [0, 0, 0], 1);
+        assert!(matches!(
+            refused,
+            Err(Failure::Refused(Refusal::NotOutline))
+        ));
+    }
+}

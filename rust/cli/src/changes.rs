@@ -1,0 +1,76 @@
+//! What differs between two sheets with as many vertices.
+
+use crate::failure::Failure;
+use crate::sheet::Sheet;
+use std::iter::zip;
+
+/// One mark a vertex and one a body, the closing one last: whether it differs.
+pub struct Changes {
+    pub vertices: Vec<bool>,
+    pub bodies: Vec<bool>,
+}
+
+impl Changes {
+    /// What differs between two sheets, if they have as many vertices.
+    pub fn between(before: &Sheet, after: &Sheet) -> Result<Changes, Failure> {
+        let (old, new) = (before.vertices(), after.vertices());
+        if old.len() != new.len() {
+            return Err(Failure::Unlike(old.len(), new.len()));
+        }
+        let vertices = zip(old, new).map(|(old, new)| old != new).collect();
+        let bodies = zip(before.bodies(), after.bodies())
+            .map(|(old, new)| before.edge_bytes(old.clone()) != after.edge_bytes(new.clone()))
+            .collect();
+        Ok(Changes { vertices, bodies })
+    }
+}
+
+/// The first place that is marked, of those from one on.
+pub fn first_marked(marks: &[bool], from: usize) -> Option<usize> {
+    let later = marks.get(from..)?;
+    later
+        .iter()
+        .position(|&mark| mark)
+        .map(|place| from + place)
+}
+
+/// How many marks are as wanted.
+pub fn count(marks: &[bool], wanted: bool) -> usize {
+    marks.iter().filter(|&&mark| mark == wanted).count()
+}
+
+#[cfg(test)]
+mod tests {
+    use super::{first_marked, Changes};
+    use crate::calls;
+    use crate::failure::Failure;
+    use crate::sheet::Sheet;
+
+    fn sheet(path: &[[i32; 3]], grade: u32) -> Sheet {
+        Sheet::sound(calls::keep(path.as_flattened(), grade).unwrap()).unwrap()
+    }
+
+    #[test]
+    fn a_moved_vertex_changes_its_bodies() {
+        let before = sheet(&[[0, 0, 5], [20, 0, 5], [40, 0, 5], [60, 0, 5]], 1);
+        let after = sheet(&[[0, 9, 5], [20, 0, 5], [40, 0, 5], [60, 0, 5]], 1);
+        let changes = Changes::between(&before, &after).unwrap();
+        assert_eq!(changes.vertices, [true, false, false, false]);
+        assert_eq!(changes.bodies, [false, true, true, false, false]);
+    }
+
+    #[test]
+    fn sheets_with_other_numbers_of_vertices_are_unlike() {
+        let (none, one) = (sheet(&[], 1), sheet(&[[0, 0, 5]], 1));
+        let unlike = Changes::between(&none, &one);
+        assert!(matches!(unlike, Err(Failure::Unlike(0, 1))));
+    }
+
+    #[test]
+    fn a_mark_is_found_from_a_place_on() {
+        let marks = [true, false, true];
+        assert_eq!(first_marked(&marks, 1), Some(2));
+        assert_eq!(first_marked(&marks, 3), None);
+        assert_eq!(first_marked(&marks, 9), None);
+    }
+}

@@ -1,0 +1,98 @@
+//! A path as text: a vertex a line, x y radius. Blank lines count for nothing,
+//! and neither does what follows a `#` on a line.
+
+use crate::failure::Failure;
+use crate::words::whole;
+
+/// The numbers of a path text, three a vertex.
+pub fn numbers(text: &[u8]) -> Result<Vec<i32>, Failure> {
+    let mut numbers = Vec::new();
+    for (place, line) in text.split(|&byte| byte == b'\n').enumerate() {
+        let content = line.split(|&byte| byte == b'#').next().unwrap_or(line);
+        let before = numbers.len();
+        for word in words(content) {
+            numbers.push(whole(word).ok_or(Failure::Line(place + 1))?);
+        }
+        if ![0, 3].contains(&(numbers.len() - before)) {
+            return Err(Failure::Line(place + 1));
+        }
+    }
+    Ok(numbers)
+}
+
+/// The words of a line: tabs and carriage returns count as spaces.
+fn words(line: &[u8]) -> impl Iterator<Item = &[u8]> {
+    line.split(|byte| b" \t\r".contains(byte))
+        .filter(|word| !word.is_empty())
+}
+
+/// Rows of numbers, one a line: a path's vertices, or edges.
+pub fn rows<const WIDTH: usize>(rows: &[[i32; WIDTH]]) -> Vec<u8> {
+    let mut text = Vec::new();
+    for row in rows {
+        for (place, number) in row.iter().enumerate() {
+            if place > 0 {
+                text.push(b' ');
+            }
+            push_number(&mut text, *number);
+        }
+        text.push(b'\n');
+    }
+    text
+}
+
+/// A number in decimal digits. The standard library's own way takes three times
+/// as long, and a boundary may have millions of them.
+fn push_number(text: &mut Vec<u8>, number: i32) {
+    if number < 0 {
+        text.push(b'-');
+    }
+    let start = text.len();
+    let mut rest = number.unsigned_abs();
+    while rest > 9 {
+        text.push(b'0' + (rest % 10) as u8);
+        rest /= 10;
+    }
+    text.push(b'0' + rest as u8);
+    text[start..].reverse();
+}
+
+#[cfg(test)]
+mod tests {
+    use super::{numbers, rows};
+    use crate::failure::Failure;
+
+    #[test]
+    fn a_text_is_read_and_written_again() {
+        let text = b"0 0 5 # a post\n\n#\n\t-3\t4 007\r\n  1  2  3";
+        let read = numbers(text).unwrap();
+        assert_eq!(read, [0, 0, 5, -3, 4, 7, 1, 2, 3]);
+        let (vertices, _) = read.as_chunks::<3>();
+        assert_eq!(rows(vertices), b"0 0 5\n-3 4 7\n1 2 3\n");
+    }
+
+    #[test]
+    fn numbers_are_written_whole() {
+        let row = [[0, -7, 10, i32::MAX, i32::MIN]];
+        assert_eq!(rows(&row), b"0 -7 10 2147483647 -2147483648\n");
+    }
+
+    #[test]
+    fn no_text_is_no_vertex() {
+        assert_eq!(numbers(b"").unwrap(), []);
+        assert_eq!(rows::<3>(&[]), b"");
+    }
+
+    #[test]
+    fn the_first_line_that_is_no_vertex_is_told() {
+        for (text, due) in [
+            (&b"1 2"[..], 1),
+            (b"1 2 3 4", 1),
+            (b"1 2 3\n4 5 x\n6", 2),
+            (b"\n\n1 2 # 3", 3),
+            (b"1 2 2147483648", 1),
+        ] {
+            assert!(matches!(numbers(text), Err(Failure::Line(line)) if line == due));
+        }
+    }
+}

@@ -1,0 +1,182 @@
+//! The page: where its panels stand, and all that it shows.
+
+use super::frame::{roomy, Frame};
+use super::view::{Panel, View};
+use super::{bounds, panel, title, Shown};
+use crate::changes::Changes;
+use crate::sheet::Sheet;
+
+const STYLE: &str = include_str!("style.css");
+
+/// A picture of more lines than this is drawn again with a coarser pen.
+const MOST_LINES: usize = 60_000;
+
+/// How far a line may be off, in hundredths of the page's unit: each is tried
+/// until the lines are few enough, and no farther than the last.
+const TOLERANCES: [i64; 6] = [0, 5, 10, 20, 40, 80];
+
+/// A page's sides and its panels: one for the whole sheet, and one for the part
+/// that is enlarged, if there is one.
+struct Page {
+    wide: i64,
+    tall: i64,
+    whole: (Panel, View),
+    part: Option<(Panel, View)>,
+}
+
+/// The picture of one sheet.
+pub fn of_one(sheet: &Sheet) -> String {
+    let changes = Changes {
+        vertices: vec![false; sheet.vertices().len()],
+        bodies: vec![false; sheet.bodies().len()],
+    };
+    let shown = Shown {
+        before: sheet,
+        after: sheet,
+        changes: &changes,
+    };
+    let heading = words("title", 20, 34, &title::of_one(sheet));
+    fitted(&page_of_one(frame_of(shown)), shown, &heading)
+}
+
+/// The picture of two sheets with as many vertices, and of what differs.
+pub fn of_two(before: &Sheet, after: &Sheet, changes: &Changes) -> String {
+    let shown = Shown {
+        before,
+        after,
+        changes,
+    };
+    let heading = words("title", 20, 28, &title::of_two(before, after))
+        + &words("told", 20, 48, &title::of_changes(shown));
+    let frame = frame_of(shown);
+    let part = roomy(bounds::of_changed(shown), 2);
+    let page = if shown.any_changed() && part.side() < frame.side() / 3 {
+        page_of_two(frame, part)
+    } else {
+        page_of_one(frame)
+    };
+    fitted(&page, shown, &heading)
+}
+
+/// The frame of all that is shown, with a margin.
+fn frame_of(shown: Shown) -> Frame {
+    roomy(bounds::of_all(shown), 20)
+}
+
+/// A page for one panel, upright or not.
+fn page_of_one(frame: Frame) -> Page {
+    let (wide, tall) = if frame.is_upright() {
+        (707, 1000)
+    } else {
+        (1000, 707)
+    };
+    let whole = Panel {
+        x: 20,
+        y: 60,
+        wide: wide - 40,
+        tall: tall - 80,
+    };
+    Page {
+        wide,
+        tall,
+        whole: (whole, View::of(frame, whole)),
+        part: None,
+    }
+}
+
+/// A page for two panels, side by side where the sheet is upright, else one
+/// below the other.
+fn page_of_two(frame: Frame, changed: Frame) -> Page {
+    let (x, y) = (20, 60);
+    let panel = |x, y, wide, tall| Panel { x, y, wide, tall };
+    let (whole, part) = if frame.is_upright() {
+        (panel(x, y, 470, 920), panel(510, y, 470, 920))
+    } else {
+        (panel(x, y, 960, 560), panel(x, 640, 960, 340))
+    };
+    Page {
+        wide: 1000,
+        tall: 1000,
+        whole: (whole, View::of(frame, whole)),
+        part: Some((part, View::of(changed, part))),
+    }
+}
+
+/// The page drawn with the finest pen that keeps its lines few enough; where
+/// points are left out, a note says so.
+fn fitted(page: &Page, shown: Shown, heading: &str) -> String {
+    let mut panels = String::new();
+    let mut note = String::new();
+    for tolerance in TOLERANCES {
+        let (text, lines) = drawn(page, shown, tolerance);
+        panels = text;
+        if tolerance > 0 {
+            let told = title::of_shortcuts(shown, tolerance, lines);
+            note = words("note", 20, page.tall - 6, &told);
+        }
+        if lines <= MOST_LINES {
+            break;
+        }
+    }
+    let Page { wide, tall, .. } = page;
+    format!(
+        "<svg xmlns=\"http://www.w3.org/2000/svg\" viewBox=\"0 0 {wide} {tall}\" \
+         width=\"{wide}\" height=\"{tall}\">\n<style>\n{STYLE}</style>\n\
+         <rect width=\"100%\" height=\"100%\" fill=\"#fff\"/>\n{heading}{panels}{note}</svg>\n"
+    )
+}
+
+/// A page's panels, and how many lines their edges have.
+fn drawn(page: &Page, shown: Shown, tolerance: i64) -> (String, usize) {
+    let (panel, all) = page.whole;
+    let (whole, lines) = panel::begin(panel, all, shown, tolerance);
+    let Some((place, view)) = page.part else {
+        return (whole + "</svg>\n", lines);
+    };
+    let (part, more) = panel::begin(place, view, shown, tolerance);
+    let told = format!("the marked part, {} times as large", view.times(all));
+    let text = [
+        whole,
+        panel::mark(all, view.frame),
+        "</svg>\n".to_string(),
+        part,
+        words("told", 10, 20, &told),
+        "</svg>\n".to_string(),
+        panel::border(place),
+    ];
+    (text.concat(), lines + more)
+}
+
+/// A line of words.
+fn words(class: &str, x: i64, y: i64, told: &str) -> String {
+    format!("<text class=\"{class}\" x=\"{x}\" y=\"{y}\">{told}</text>\n")
+}
+
+#[cfg(test)]
+mod tests {
+    use super::{of_one, MOST_LINES};
+    use crate::calls;
+    use crate::sheet::Sheet;
+
+    /// Wide circles far apart.
+    fn beads(count: i32) -> Sheet {
+        let path: Vec<[i32; 3]> = (0..count).map(|i| [i * 1_000, 0, 400 - i % 7]).collect();
+        Sheet::sound(calls::keep(path.as_flattened(), 8).unwrap()).unwrap()
+    }
+
+    #[test]
+    fn a_small_sheet_is_drawn_as_it_stands() {
+        let picture = of_one(&beads(10));
+        assert!(picture.contains("<text class=\"title\" x=\"20\" y=\"34\">10 vertices, "));
+        assert!(!picture.contains("no finer"));
+    }
+
+    #[test]
+    fn a_large_one_says_what_it_leaves_out() {
+        let sheet = beads(4096);
+        assert!(sheet.edge_count() > 10 * MOST_LINES);
+        let picture = of_one(&sheet);
+        assert!(picture.contains("drawn no finer than the page can show"));
+        assert!(picture.len() < 3_000_000);
+    }
+}

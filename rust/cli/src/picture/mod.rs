@@ -1,0 +1,36 @@
+//! A picture of a sheet, or of what changed between two, as SVG. All places are
+//! whole hundredths of the page's unit, so that the same sheets give the same
+//! picture on every machine.
+
+mod bounds;
+mod discs;
+mod frame;
+mod labels;
+mod layout;
+mod lines;
+mod panel;
+mod pen;
+mod shortcut;
+mod title;
+mod view;
+
+use crate::changes::Changes;
+use crate::sheet::Sheet;
+
+pub use layout::{of_one, of_two};
+
+/// What a picture shows: one sheet as `before` and `after` with nothing marked,
+/// or two.
+#[derive(Clone, Copy)]
+struct Shown<'a> {
+    before: &'a Sheet,
+    after: &'a Sheet,
+    changes: &'a Changes,
+}
+
+impl Shown<'_> {
+    /// Whether a body holds other edges.
+    fn any_changed(&self) -> bool {
+        self.changes.bodies.contains(&true)
+    }
+}

@@ -1,0 +1,201 @@
+//! The pen: writes the lines of an SVG path, each from where the last one ended
+//! if it goes on there, and leaves out what nobody would see.
+
+use super::bounds::of_line;
+use super::frame::Point;
+use super::shortcut::Shortcut;
+use super::view::{Spot, View};
+
+/// A pen over a view. Where points are left out, the line is true to its
+/// tolerance, in hundredths; with a tolerance of 0 it goes through every place
+/// that hundredths tell apart.
+pub struct Pen {
+    view: View,
+    tolerance: i64,
+    text: String,
+    lines: usize,
+    run: Option<Run>,
+}
+
+/// Lines that go on from one another: where the last one that is written ended,
+/// the place to go to next, and the point of the sheet that this is.
+struct Run {
+    at: Spot,
+    next: Spot,
+    end: Point,
+    shortcut: Shortcut,
+}
+
+impl Pen {
+    /// A pen that has drawn nothing.
+    pub fn new(view: View, tolerance: i64) -> Pen {
+        Pen {
+            view,
+            tolerance,
+            text: String::new(),
+            lines: 0,
+            run: None,
+        }
+    }
+
+    /// Draws a line, if the view shows something of it.
+    pub fn line(&mut self, start: Point, end: Point) {
+        if !self.view.shows(of_line(start, end)) {
+            return;
+        }
+        let to = self.view.spot(end);
+        match &mut self.run {
+            Some(run) if run.end == start => {
+                run.end = end;
+                self.go_on(to);
+            }
+            _ => self.begin(self.view.spot(start), to, end),
+        }
+    }
+
+    /// What was written, and how many lines that is.
+    pub fn finish(mut self) -> (String, usize) {
+        self.go();
+        (self.text, self.lines)
+    }
+
+    /// Starts a run with a line.
+    fn begin(&mut self, at: Spot, to: Spot, end: Point) {
+        self.go();
+        self.text.push('M');
+        push_decimal(&mut self.text, at.x);
+        push_spaced(&mut self.text, at.y);
+        self.text.push('l');
+        let mut shortcut = Shortcut::new(at, self.tolerance);
+        shortcut.passes(to);
+        self.run = Some(Run {
+            at,
+            next: to,
+            end,
+            shortcut,
+        });
+    }
+
+    /// Goes on to a place; one that is no other writes nothing.
+    fn go_on(&mut self, to: Spot) {
+        let Some(run) = &mut self.run else { return };
+        if run.next == to {
+            return;
+        }
+        if !run.shortcut.passes(to) {
+            self.go();
+            self.turn(to);
+        }
+        if let Some(run) = &mut self.run {
+            run.next = to;
+        }
+    }
+
+    /// Takes a new direction from the place that was gone to.
+    fn turn(&mut self, to: Spot) {
+        if let Some(run) = &mut self.run {
+            run.at = run.next;
+            run.shortcut = Shortcut::new(run.at, self.tolerance);
+            run.shortcut.passes(to);
+        }
+    }
+
+    /// Writes the line to the next place, by how far it is.
+    fn go(&mut self) {
+        if let Some(run) = &self.run {
+            push_spaced(&mut self.text, run.next.x - run.at.x);
+            push_spaced(&mut self.text, run.next.y - run.at.y);
+            self.lines += 1;
+        }
+    }
+}
+
+/// Hundredths as a decimal number, without needless digits.
+pub fn push_decimal(text: &mut String, hundredths: i64) {
+    if hundredths < 0 {
+        text.push('-');
+    }
+    let (whole, rest) = (hundredths.abs() / 100, hundredths.abs() % 100);
+    if whole > 0 || rest == 0 {
+        text.push_str(&whole.to_string());
+    }
+    if rest > 0 {
+        text.push('.');
+        text.push(digit(rest / 10));
+    }
+    if rest % 10 > 0 {
+        text.push(digit(rest % 10));
+    }
+}
+
+/// The same after a space, which a minus makes needless.
+fn push_spaced(text: &mut String, hundredths: i64) {
+    if hundredths >= 0 {
+        text.push(' ');
+    }
+    push_decimal(text, hundredths);
+}
+
+/// Hundredths as a decimal number.
+pub fn decimal(hundredths: i64) -> String {
+    let mut text = String::new();
+    push_decimal(&mut text, hundredths);
+    text
+}
+
+/// A digit below ten.
+fn digit(value: i64) -> char {
+    char::from(b'0' + value as u8)
+}
+
+#[cfg(test)]
+mod tests {
+    use super::{decimal, Pen};
+    use crate::picture::frame::{Frame, Point};
+    use crate::picture::view::{Panel, View};
+
+    fn pen(tolerance: i64) -> Pen {
+        let panel = Panel {
+            x: 0,
+            y: 0,
+            wide: 100,
+            tall: 100,
+        };
+        let frame = Frame::about(Point::of(0, 0), 256 * 50);
+        Pen::new(View::of(frame, panel), tolerance)
+    }
+
+    #[test]
+    fn decimals_are_short() {
+        let told = [0, 5, 50, 123, 1000, -40, -307].map(decimal);
+        assert_eq!(told, ["0", ".05", ".5", "1.23", "10", "-.4", "-3.07"]);
+    }
+
+    #[test]
+    fn lines_that_go_on_are_one_run() {
+        let mut pen = pen(0);
+        let points = [(0, 0), (10, 0), (10, 5)].map(|(x, y)| Point::of(x, y));
+        pen.line(points[0], points[1]);
+        pen.line(points[1], points[2]);
+        pen.line(points[0], points[2]);
+        let due = "M50 50l 10 0 0-5M50 50l 10-5".to_string();
+        assert_eq!(pen.finish(), (due, 3));
+    }
+
+    #[test]
+    fn what_lies_outside_is_left_out() {
+        let mut pen = pen(0);
+        pen.line(Point::of(60, 60), Point::of(70, 60));
+        assert_eq!(pen.finish(), (String::new(), 0));
+    }
+
+    #[test]
+    fn points_between_are_left_out_within_the_tolerance() {
+        let mut pen = pen(200);
+        for x in 0..40 {
+            pen.line(Point::of(x, x % 2), Point::of(x + 1, (x + 1) % 2));
+        }
+        pen.line(Point::of(40, 0), Point::of(40, 30));
+        assert_eq!(pen.finish(), ("M50 50l 40 0 0-30".to_string(), 2));
+    }
+}

@@ -1,0 +1,66 @@
+//! The lines of words on the page.
+
+use super::pen::decimal;
+use super::Shown;
+use crate::changes::{count, first_marked};
+use crate::ranges::{counted, number};
+use crate::sheet::Sheet;
+
+/// The first line of one sheet's picture.
+pub fn of_one(sheet: &Sheet) -> String {
+    let vertices = counted(sheet.vertices().len(), "vertex", "vertices");
+    let edges = counted(sheet.edge_count(), "edge", "edges");
+    format!("{vertices}, {edges}, grade {}", sheet.grade())
+}
+
+/// The first line of two sheets' picture.
+pub fn of_two(before: &Sheet, after: &Sheet) -> String {
+    let vertices = counted(after.vertices().len(), "vertex", "vertices");
+    let edges = counted(before.edge_count(), "edge", "edges");
+    let later = number(after.edge_count());
+    let grade = match (before.grade(), after.grade()) {
+        (old, new) if old == new => new.to_string(),
+        (old, new) => format!("{old} before and {new} after"),
+    };
+    format!("{vertices}, {edges} before and {later} after, grade {grade}")
+}
+
+/// What differs, in one line.
+pub fn of_changes(shown: Shown) -> String {
+    let (vertices, bodies) = (&shown.changes.vertices, &shown.changes.bodies);
+    let moved = counted(count(vertices, true), "vertex differs", "vertices differ");
+    let changed = count(bodies, true);
+    let other = counted(changed, "body holds other edges", "bodies hold other edges");
+    if changed == 0 {
+        return format!("{moved}; {other}");
+    }
+    format!(
+        "{moved}; {other}: {} (<tspan class=\"after\">red: after</tspan>, \
+         <tspan class=\"before\">blue dashes: before</tspan>)",
+        span(bodies)
+    )
+}
+
+/// Which bodies changed, from the first to the last.
+fn span(bodies: &[bool]) -> String {
+    let first = first_marked(bodies, 0).unwrap_or(0);
+    let last = bodies.iter().rposition(|&mark| mark).unwrap_or(0);
+    let name = |body| match body {
+        closing if closing + 1 == bodies.len() => "the closing one".to_string(),
+        body => number(body),
+    };
+    if first == last {
+        return name(first);
+    }
+    format!("{} the first, {} the last", name(first), name(last))
+}
+
+/// What is said where lines stand for more edges than the page can show.
+pub fn of_shortcuts(shown: Shown, tolerance: i64, lines: usize) -> String {
+    format!(
+        "drawn no finer than the page can show: true to {} of its units, {} for {} edges",
+        decimal(tolerance),
+        counted(lines, "line", "lines"),
+        number(shown.after.edge_count())
+    )
+}

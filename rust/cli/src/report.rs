@@ -1,0 +1,91 @@
+//! The report of two sheets: vertices, bodies, edges, and what follows.
+
+use crate::changes::{count, Changes};
+use crate::failure::Failure;
+use crate::ranges::{counted, number, places};
+use crate::sentence;
+use crate::sheet::Sheet;
+
+/// What differs between two sheets, and what cannot.
+pub fn of(before: &Sheet, after: &Sheet) -> Result<String, Failure> {
+    let changes = Changes::between(before, after)?;
+    let facts = format!(
+        "{}\n{}\nedges: {} before, {} after\n",
+        vertices(&changes.vertices),
+        bodies(&changes.bodies),
+        number(before.edge_count()),
+        number(after.edge_count()),
+    );
+    if before.grade() != after.grade() {
+        let grades = format!("{} before and {} after", before.grade(), after.grade());
+        return Ok(format!(
+            "{facts}the grades differ, {grades}: \
+             nothing is promised of bodies that are drawn at two grades\n"
+        ));
+    }
+    match sentence::of(after, &changes)? {
+        Ok(held) => Ok(format!("{facts}{held}\n")),
+        Err(broken) => Err(Failure::Fault(format!("{facts}{broken}\n"))),
+    }
+}
+
+/// How many vertices there are, and which differ.
+fn vertices(marks: &[bool]) -> String {
+    let differing = counted(count(marks, true), "differs", "differ");
+    let which = listed(places(marks, true));
+    format!(
+        "vertices: {} on each sheet; {differing}{which}",
+        number(marks.len())
+    )
+}
+
+/// How many bodies there are, which hold other edges and which the same.
+fn bodies(marks: &[bool]) -> String {
+    let total = number(marks.len());
+    let other = some_bodies(marks, true, "holds other edges", "hold other edges");
+    let same = some_bodies(marks, false, "holds the same", "hold the same");
+    format!("bodies: {total}, the closing one among them; {other}; {same}")
+}
+
+/// The bodies whose marks are as wanted, the closing one by its name.
+fn some_bodies(marks: &[bool], wanted: bool, one: &str, many: &str) -> String {
+    let (closing, others) = match marks {
+        [others @ .., closing] => (*closing == wanted, others),
+        [] => (false, marks),
+    };
+    let mut which = places(others, wanted);
+    if closing {
+        which.push("closing".to_string());
+    }
+    counted(count(marks, wanted), one, many) + &listed(which)
+}
+
+/// Places after a colon, if there are any.
+fn listed(places: Vec<String>) -> String {
+    if places.is_empty() {
+        return String::new();
+    }
+    format!(": {}", places.join(", "))
+}
+
+#[cfg(test)]
+mod tests {
+    use super::{bodies, vertices};
+
+    #[test]
+    fn nothing_is_listed_where_nothing_is() {
+        assert_eq!(vertices(&[]), "vertices: 0 on each sheet; 0 differ");
+        assert_eq!(
+            bodies(&[false]),
+            "bodies: 1, the closing one among them; 0 hold other edges; 1 holds the same: closing"
+        );
+    }
+
+    #[test]
+    fn the_closing_body_is_named() {
+        assert_eq!(
+            bodies(&[false, true, true]),
+            "bodies: 3, the closing one among them; 2 hold other edges: 1, closing; 1 holds the same: 0"
+        );
+    }
+}
