@@ -6,11 +6,14 @@
 use crate::failure::Failure;
 use crate::memory::{lengthen, zeros};
 use crate::progress;
-use crate::sheet::length_told;
+use crate::sheet::Header;
 use sehmelir::Refusal;
 
 /// The most vertices that a path may have: what a read lends room for.
 const MOST_VERTICES: usize = 4096;
+
+/// About as many bodies change where a vertex does.
+const CHANGED_BODIES: usize = 4;
 
 /// A path's boundary.
 pub fn draw(path: &[i32], grade: u32) -> Result<Vec<[i32; 4]>, Failure> {
@@ -51,11 +54,10 @@ pub fn replace(
     mut sheet: Vec<u8>,
     index: usize,
     [x, y, radius]: [i32; 3],
-    grade_told: u32,
 ) -> Result<Vec<u8>, Failure> {
-    if length_told(&sheet).is_some_and(|length| length <= sheet.len()) {
-        let bodies = 4;
-        lengthen(&mut sheet, 16 * likely_edges(bodies, grade_told))?;
+    let whole = Header::of(&sheet).filter(|header| header.length() <= sheet.len());
+    if let Some(Header { grade, .. }) = whole {
+        lengthen(&mut sheet, 16 * likely_edges(CHANGED_BODIES, grade))?;
     }
     progress::during("replacing", || {
         let mut replaced = sehmelir::replace(&mut sheet, index, x, y, radius);
@@ -116,7 +118,7 @@ mod tests {
     fn a_vertex_is_replaced_by_one_of_any_size() {
         let sheet = keep(&[0, 0, 0], 8).unwrap();
         for radius in [0, 10, 1 << 28] {
-            let replaced = replace(sheet.clone(), 0, [1, 2, radius], 8).unwrap();
+            let replaced = replace(sheet.clone(), 0, [1, 2, radius]).unwrap();
             assert_eq!(replaced, keep(&[1, 2, radius], 8).unwrap());
             assert_eq!(read(&replaced).unwrap(), (vec![[1, 2, radius]], 8));
         }
@@ -126,7 +128,7 @@ mod tests {
     fn room_makes_no_sheet_whole_that_was_cut_short() {
         let mut sheet = keep(&[0, 0, 10], 1).unwrap();
         sheet.pop();
-        let refused = replace(sheet, 0, [0, 0, 0], 1);
+        let refused = replace(sheet, 0, [0, 0, 0]);
         assert!(matches!(
             refused,
             Err(Failure::Refused(Refusal::NotOutline))

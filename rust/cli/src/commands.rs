@@ -9,7 +9,7 @@ use crate::failure::Failure;
 use crate::path_text::{numbers, rows};
 use crate::picture;
 use crate::report;
-use crate::sheet::{grade_told, Sheet};
+use crate::sheet::Sheet;
 use crate::source::Source;
 use crate::words::whole;
 use clap::CommandFactory;
@@ -50,8 +50,8 @@ pub fn run(command: Command) -> Result<(), Failure> {
             destination,
         } => {
             let (index, vertex) = vertex_of(&index, [&x, &y, &radius])?;
-            let replaced = Source::named(sheet).take(|sheet| replace(sheet, index, vertex))?;
-            destination.write(&replaced)
+            let replace = |sheet| calls::replace(sheet, index, vertex);
+            destination.write(&Source::named(sheet).take(replace)?)
         }
         Command::Changed {
             before,
@@ -69,12 +69,6 @@ pub fn run(command: Command) -> Result<(), Failure> {
         Command::Demo => demo::run(),
         Command::Completions { shell } => complete(shell),
     }
-}
-
-/// A sheet with another vertex.
-pub fn replace(sheet: Vec<u8>, index: usize, vertex: [i32; 3]) -> Result<Vec<u8>, Failure> {
-    let grade = grade_told(&sheet).unwrap_or(0);
-    calls::replace(sheet, index, vertex, grade)
 }
 
 /// A sound sheet from a file or from standard input.

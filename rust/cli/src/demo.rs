@@ -3,7 +3,6 @@
 
 use crate::calls;
 use crate::changes::Changes;
-use crate::commands::replace;
 use crate::destination::Destination;
 use crate::failure::Failure;
 use crate::path_text::numbers;
@@ -26,7 +25,7 @@ pub fn run() -> Result<(), Failure> {
     let (index, vertex) = gate_post().ok_or(Failure::Words("demo/gate-post.txt is no vertex"))?;
     let hedge = calls::keep(&numbers(HEDGE)?, GRADE)?;
     let before = Sheet::sound(hedge.clone())?;
-    let after = Sheet::sound(replace(hedge, index, vertex)?)?;
+    let after = Sheet::sound(calls::replace(hedge, index, vertex)?)?;
     let told = report::of(&before, &after)?;
     let changes = Changes::between(&before, &after)?;
     let shown = picture::of_two(&before, &after, &changes);

@@ -20,6 +20,8 @@ pub enum Failure {
     Unread(io::Error),
     /// The result cannot be written.
     Unwritten(io::Error),
+    /// A thread to work on cannot be had.
+    Thread(io::Error),
     /// So much memory cannot be had.
     Memory(usize),
     /// Two sheets differ where they cannot, as this report of them says.
@@ -61,10 +63,13 @@ impl Display for Failure {
             Failure::Unwritten(error) => {
                 write!(formatter, "refused: the result cannot be written: {error}")
             }
+            Failure::Thread(error) => {
+                write!(formatter, "refused: no thread can be started: {error}")
+            }
             Failure::Memory(bytes) => {
                 write!(formatter, "refused: {bytes} bytes of memory cannot be had")
             }
-            Failure::Fault(report) => formatter.write_str(report.trim_end()),
+            Failure::Fault(report) => formatter.write_str(report),
             Failure::Of(file, failure) => write!(formatter, "{}: {failure}", file.display()),
         }
     }

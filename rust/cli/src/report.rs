@@ -3,7 +3,7 @@
 use crate::changes::{count, Changes};
 use crate::failure::Failure;
 use crate::ranges::{counted, number, places};
-use crate::sentence;
+use crate::sentence::{self, Sentence};
 use crate::sheet::Sheet;
 
 /// What differs between two sheets, and what cannot.
@@ -24,8 +24,8 @@ pub fn of(before: &Sheet, after: &Sheet) -> Result<String, Failure> {
         ));
     }
     match sentence::of(after, &changes)? {
-        Ok(held) => Ok(format!("{facts}{held}\n")),
-        Err(broken) => Err(Failure::Fault(format!("{facts}{broken}\n"))),
+        Sentence::Holds(told) => Ok(format!("{facts}{told}\n")),
+        Sentence::Fault(told) => Err(Failure::Fault(format!("{facts}{told}"))),
     }
 }
 

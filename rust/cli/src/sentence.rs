@@ -8,41 +8,43 @@ use crate::ranges::{number, range};
 use crate::reach::reach;
 use crate::sheet::Sheet;
 
-/// What follows; or, as an error of its own, that a body breaks it, which would
-/// be a fault of this port or of a compiler.
-pub fn of(after: &Sheet, changes: &Changes) -> Result<Result<String, String>, Failure> {
-    let differing = count(&changes.vertices, true);
-    let Some(moved) = first_marked(&changes.vertices, 0) else {
-        return Ok(unchanged(&changes.bodies));
+/// What follows of two sheets.
+pub enum Sentence {
+    /// This holds.
+    Holds(String),
+    /// A body breaks it, which would be a fault of this port or of a compiler.
+    Fault(String),
+}
+
+/// What follows from what differs between two sheets of one grade.
+pub fn of(after: &Sheet, changes: &Changes) -> Result<Sentence, Failure> {
+    let Changes { vertices, bodies } = changes;
+    let Some(moved) = first_marked(vertices, 0) else {
+        return Ok(unchanged(bodies));
     };
-    if differing > 1 {
+    if count(vertices, true) > 1 {
         let told = "more than one vertex differs: \
                     what cannot change is told only where one vertex was moved";
-        return Ok(Ok(told.to_string()));
+        return Ok(Sentence::Holds(told.to_string()));
     }
     let settled = reach(after.bytes(), moved)?;
-    let vertices = changes.vertices.len();
-    let kept = (settled + 1 < vertices).then_some(settled + 1);
-    Ok(match broken(&changes.bodies, moved, kept) {
-        Some(body) => Err(fault(body, vertices)),
-        None => Ok(format!(
-            "{}\n{}",
-            reached(moved, settled, vertices),
-            promise(moved, kept)
-        )),
-    })
+    let kept = (settled + 1 < vertices.len()).then_some(settled + 1);
+    if let Some(body) = broken(bodies, moved, kept) {
+        return Ok(Sentence::Fault(fault(body, vertices.len())));
+    }
+    let reached = reached(moved, settled, vertices.len());
+    let promise = promise(moved, kept);
+    Ok(Sentence::Holds(format!("{reached}\n{promise}")))
 }
 
 /// What follows where no vertex differs.
-fn unchanged(bodies: &[bool]) -> Result<String, String> {
-    match first_marked(bodies, 0) {
-        None => Ok("nothing differs: the two sheets are the same".to_string()),
-        Some(_) => Err(
-            "FAULT: no vertex differs, and yet a body holds other edges: \
-                        this must not be, please report both sheets"
-                .to_string(),
-        ),
+fn unchanged(bodies: &[bool]) -> Sentence {
+    if bodies.contains(&true) {
+        let told = "FAULT: no vertex differs, and yet a body holds other edges: \
+                    this must not be, please report both sheets";
+        return Sentence::Fault(told.to_string());
     }
+    Sentence::Holds("nothing differs: the two sheets are the same".to_string())
 }
 
 /// A body that cannot change and did: one before the moved vertex's, or one
@@ -108,7 +110,7 @@ fn promise(moved: usize, kept: Option<usize>) -> String {
 
 #[cfg(test)]
 mod tests {
-    use super::{broken, fault, promise, unchanged};
+    use super::{broken, fault, promise, unchanged, Sentence};
 
     #[test]
     fn promises_name_what_they_hold_of() {
@@ -131,6 +133,6 @@ mod tests {
         assert_eq!(broken(&bodies, 1, None), None);
         assert!(fault(3, 3).starts_with("FAULT: the closing body"));
         assert!(fault(1, 3).starts_with("FAULT: body 1 "));
-        assert!(unchanged(&bodies).is_err());
+        assert!(matches!(unchanged(&bodies), Sentence::Fault(_)));
     }
 }

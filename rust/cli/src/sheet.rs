@@ -87,15 +87,28 @@ fn bodies(bytes: &[u8], vertices: usize) -> Vec<Range<usize>> {
         .collect()
 }
 
-/// How long a sheet is by the word of its header, if it has one.
-pub fn length_told(bytes: &[u8]) -> Option<usize> {
-    let (vertices, edges) = (word(bytes, 3)?, word(bytes, 4)?);
-    Some(4 * (HEADER + 1) + 4 * ROW * (vertices as usize + edges as usize))
+/// What bytes that may be a sheet say of themselves.
+#[derive(Debug, PartialEq)]
+pub struct Header {
+    pub grade: u32,
+    vertices: usize,
+    edges: usize,
 }
 
-/// The grade by the word of a header, if there is one.
-pub fn grade_told(bytes: &[u8]) -> Option<u32> {
-    word(bytes, 2)
+impl Header {
+    /// The header, if there are bytes enough for one.
+    pub fn of(bytes: &[u8]) -> Option<Header> {
+        Some(Header {
+            grade: word(bytes, 2)?,
+            vertices: word(bytes, 3)? as usize,
+            edges: word(bytes, 4)? as usize,
+        })
+    }
+
+    /// How long the sheet must be.
+    pub fn length(&self) -> usize {
+        4 * (HEADER + 1) + 4 * ROW * (self.vertices + self.edges)
+    }
 }
 
 /// The word at a place, if the bytes reach that far.
@@ -106,15 +119,15 @@ fn word(bytes: &[u8], place: usize) -> Option<u32> {
 
 #[cfg(test)]
 mod tests {
-    use super::{grade_told, length_told, Sheet};
+    use super::{Header, Sheet};
     use crate::calls;
 
     #[test]
     fn a_sheet_is_taken_apart() {
         let path = [[0, 0, 10], [3, 0, 2], [6, 0, 10]];
         let bytes = calls::keep(path.as_flattened(), 1).unwrap();
-        assert_eq!(length_told(&bytes), Some(bytes.len()));
-        assert_eq!(grade_told(&bytes), Some(1));
+        let header = Header::of(&bytes).unwrap();
+        assert_eq!((header.grade, header.length()), (1, bytes.len()));
         let sheet = Sheet::sound(bytes).unwrap();
         assert_eq!(sheet.vertices(), path);
         assert_eq!(sheet.bodies(), [0..0, 0..8, 8..8, 8..16]);
@@ -124,7 +137,6 @@ mod tests {
 
     #[test]
     fn few_bytes_tell_nothing() {
-        assert_eq!(length_told(&[1; 19]), None);
-        assert_eq!(grade_told(&[1; 11]), None);
+        assert_eq!(Header::of(&[1; 19]), None);
     }
 }

@@ -14,15 +14,15 @@ pub struct Pen {
     tolerance: i64,
     text: String,
     lines: usize,
-    run: Option<Run>,
+    /// The run at work, and the point of the sheet where its last line ends.
+    run: Option<(Run, Point)>,
 }
 
 /// Lines that go on from one another: where the last one that is written ended,
-/// the place to go to next, and the point of the sheet that this is.
+/// and the place to go to next.
 struct Run {
     at: Spot,
     next: Spot,
-    end: Point,
     shortcut: Shortcut,
 }
 
@@ -44,69 +44,67 @@ impl Pen {
             return;
         }
         let to = self.view.spot(end);
-        match &mut self.run {
-            Some(run) if run.end == start => {
-                run.end = end;
-                self.go_on(to);
+        let run = match self.run.take() {
+            Some((run, at)) if at == start => self.go_on(run, to),
+            ended => {
+                self.end(ended);
+                self.begin(self.view.spot(start), to)
             }
-            _ => self.begin(self.view.spot(start), to, end),
-        }
+        };
+        self.run = Some((run, end));
     }
 
     /// What was written, and how many lines that is.
     pub fn finish(mut self) -> (String, usize) {
-        self.go();
+        let ended = self.run.take();
+        self.end(ended);
         (self.text, self.lines)
     }
 
-    /// Starts a run with a line.
-    fn begin(&mut self, at: Spot, to: Spot, end: Point) {
-        self.go();
+    /// A run that starts at a place.
+    fn begin(&mut self, at: Spot, to: Spot) -> Run {
         self.text.push('M');
         push_decimal(&mut self.text, at.x);
         push_spaced(&mut self.text, at.y);
         self.text.push('l');
+        self.turned(at, to)
+    }
+
+    /// The run after a line to a place; one that is no other writes nothing.
+    fn go_on(&mut self, mut run: Run, to: Spot) -> Run {
+        if run.next == to {
+            return run;
+        }
+        if run.shortcut.passes(to) {
+            return Run { next: to, ..run };
+        }
+        self.go(run.at, run.next);
+        self.turned(run.next, to)
+    }
+
+    /// A run that takes a direction from a place where a line ended.
+    fn turned(&self, at: Spot, to: Spot) -> Run {
         let mut shortcut = Shortcut::new(at, self.tolerance);
         shortcut.passes(to);
-        self.run = Some(Run {
+        Run {
             at,
             next: to,
-            end,
             shortcut,
-        });
-    }
-
-    /// Goes on to a place; one that is no other writes nothing.
-    fn go_on(&mut self, to: Spot) {
-        let Some(run) = &mut self.run else { return };
-        if run.next == to {
-            return;
-        }
-        if !run.shortcut.passes(to) {
-            self.go();
-            self.turn(to);
-        }
-        if let Some(run) = &mut self.run {
-            run.next = to;
         }
     }
 
-    /// Takes a new direction from the place that was gone to.
-    fn turn(&mut self, to: Spot) {
-        if let Some(run) = &mut self.run {
-            run.at = run.next;
-            run.shortcut = Shortcut::new(run.at, self.tolerance);
-            run.shortcut.passes(to);
+    /// Writes what is left of a run, if there is one.
+    fn end(&mut self, run: Option<(Run, Point)>) {
+        if let Some((run, _)) = run {
+            self.go(run.at, run.next);
         }
     }
 
-    /// Writes the line to the next place, by how far it is.
-    fn go(&mut self) {
-        if let Some(run) = &self.run {
-            push_spaced(&mut self.text, run.next.x - run.at.x);
-            push_spaced(&mut self.text, run.next.y - run.at.y);
-            self.lines += 1;
-        }
+    /// Writes a line, by how far it goes.
+    fn go(&mut self, from: Spot, to: Spot) {
+        push_spaced(&mut self.text, to.x - from.x);
+        push_spaced(&mut self.text, to.y - from.y);
+        self.lines += 1;
     }
 }
 

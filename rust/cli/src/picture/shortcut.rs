@@ -18,6 +18,11 @@ pub struct Shortcut {
 struct Vector(f64, f64);
 
 impl Vector {
+    /// By the root alone, which every machine rounds alike.
+    fn length(self) -> f64 {
+        (self.0 * self.0 + self.1 * self.1).sqrt()
+    }
+
     /// Above 0 if the other direction lies to the left of this one.
     fn cross(self, other: Vector) -> f64 {
         self.0 * other.1 - self.1 * other.0
@@ -39,7 +44,7 @@ impl Shortcut {
     /// enough; then it may be left out too. With a tolerance of 0 none does.
     pub fn passes(&mut self, to: Spot) -> bool {
         let along = Vector((to.x - self.from.x) as f64, (to.y - self.from.y) as f64);
-        let length = along.0.hypot_exactly(along.1);
+        let length = along.length();
         let turned_back = length + self.tolerance < self.farthest;
         if self.tolerance == 0.0 || turned_back || !self.holds(along) {
             return false;
@@ -72,17 +77,6 @@ impl Shortcut {
                 if after.cross(left) < 0.0 { left } else { after },
             ),
         });
-    }
-}
-
-/// A length from its parts by the root alone, which every machine rounds alike.
-trait Exactly {
-    fn hypot_exactly(self, other: f64) -> f64;
-}
-
-impl Exactly for f64 {
-    fn hypot_exactly(self, other: f64) -> f64 {
-        (self * self + other * other).sqrt()
     }
 }
 
