@@ -11,6 +11,10 @@ use crate::sheet::Sheet;
 /// unit.
 const ROOM: i64 = 3600;
 
+/// About as many numbers at most leave something of the sheet to be seen, where
+/// its path goes to and fro over the page.
+const MOST: i64 = 120;
+
 /// A number stands so far to the right of its dot and above it, in hundredths.
 const BESIDE: i64 = 500;
 
@@ -22,7 +26,7 @@ pub fn every(view: View, sheet: &Sheet) -> usize {
     let lengths = seen.map(|step| apart(spot_of(view, &step[0]), spot_of(view, &step[1])));
     let (count, length) = lengths.fold((0, 0), |(count, sum), length| (count + 1, sum + length));
     let rounds = (0..4).flat_map(|power| [1, 2, 5].map(|digit| digit * 10i64.pow(power)));
-    let roomy = |every: &i64| ROOM * count <= length * every;
+    let roomy = |every: &i64| ROOM * count <= length * every && count <= MOST * every;
     rounds.into_iter().find(roomy).unwrap_or(10_000) as usize
 }
 

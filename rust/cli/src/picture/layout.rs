@@ -8,12 +8,19 @@ use crate::sheet::Sheet;
 
 const STYLE: &str = include_str!("style.css");
 
-/// A picture of more lines than this is drawn again with a coarser pen.
-const MOST_LINES: usize = 60_000;
+/// How far a line may be off, in hundredths of the page's unit, and how many
+/// lines there may then be: each pen is tried until its lines are few enough,
+/// and none is coarser than the last. As many lines take some 2.5 MB.
+const PENS: [(i64, usize); 6] = [
+    (0, 60_000),
+    (5, MOST_LINES),
+    (10, MOST_LINES),
+    (20, MOST_LINES),
+    (40, MOST_LINES),
+    (80, usize::MAX),
+];
 
-/// How far a line may be off, in hundredths of the page's unit: each is tried
-/// until the lines are few enough, and no farther than the last.
-const TOLERANCES: [i64; 6] = [0, 5, 10, 20, 40, 80];
+const MOST_LINES: usize = 200_000;
 
 /// A page's sides and its panels: one for the whole sheet, and one for the part
 /// that is enlarged, if there is one.
@@ -107,14 +114,14 @@ fn page_of_two(frame: Frame, changed: Frame) -> Page {
 fn fitted(page: &Page, shown: Shown, heading: &str) -> String {
     let mut panels = String::new();
     let mut note = String::new();
-    for tolerance in TOLERANCES {
+    for (tolerance, most) in PENS {
         let (text, lines) = drawn(page, shown, tolerance);
         panels = text;
         if tolerance > 0 {
             let told = title::of_shortcuts(shown, tolerance, lines);
             note = words("note", 20, page.tall - 6, &told);
         }
-        if lines <= MOST_LINES {
+        if lines <= most {
             break;
         }
     }
@@ -174,7 +181,7 @@ mod tests {
     #[test]
     fn a_large_one_says_what_it_leaves_out() {
         let sheet = beads(4096);
-        assert!(sheet.edge_count() > 10 * MOST_LINES);
+        assert!(sheet.edge_count() > MOST_LINES);
         let picture = of_one(&sheet);
         assert!(picture.contains("drawn no finer than the page can show"));
         assert!(picture.len() < 3_000_000);
