@@ -1,7 +1,7 @@
 //! The command line.
 
 use crate::destination::Destination;
-use clap::{Parser, Subcommand};
+use clap::{Args, Parser, Subcommand};
 use clap_complete::Shell;
 use std::path::PathBuf;
 
@@ -24,74 +24,21 @@ pub struct Arguments {
     pub command: Option<Command>,
 }
 
-/// What can be done. Numbers come as words: one that is none is refused in this
-/// command's own words.
+/// What can be done.
 #[derive(Subcommand)]
 pub enum Command {
     /// Keep a path as a sheet, its boundary drawn at a grade of 1 to 8
-    Keep {
-        /// How finely arcs are drawn: 1 to 8, 8 is the finest
-        #[arg(allow_negative_numbers = true)]
-        grade: String,
-        /// The path text, if not on standard input
-        path: Option<PathBuf>,
-        #[command(flatten)]
-        destination: Destination,
-    },
+    Keep(Drawing),
     /// The path of a sheet, as text again
-    Read {
-        /// The sheet, if not on standard input
-        sheet: Option<PathBuf>,
-        #[command(flatten)]
-        destination: Destination,
-    },
+    Read(Reading),
     /// The boundary of a path, an edge a line: x y of its start, x y of its end
-    Draw {
-        /// How finely arcs are drawn: 1 to 8, 8 is the finest
-        #[arg(allow_negative_numbers = true)]
-        grade: String,
-        /// The path text, if not on standard input
-        path: Option<PathBuf>,
-        #[command(flatten)]
-        destination: Destination,
-    },
+    Draw(Drawing),
     /// A sheet with another vertex K; the first vertex is 0
-    Replace {
-        /// The number of the vertex, from 0 on
-        #[arg(value_name = "K", allow_negative_numbers = true)]
-        index: String,
-        /// Where it stands then, across
-        #[arg(allow_negative_numbers = true)]
-        x: String,
-        /// Where it stands then, upwards
-        #[arg(allow_negative_numbers = true)]
-        y: String,
-        /// Its radius then
-        #[arg(allow_negative_numbers = true)]
-        radius: String,
-        /// The sheet, if not on standard input
-        sheet: Option<PathBuf>,
-        #[command(flatten)]
-        destination: Destination,
-    },
+    Replace(Replacing),
     /// What differs between two sheets, and what cannot
-    Changed {
-        /// The sheet before
-        before: PathBuf,
-        /// The sheet after
-        after: PathBuf,
-        #[command(flatten)]
-        destination: Destination,
-    },
+    Changed(Comparing),
     /// A sheet as a picture (SVG), or two, what differs in a second colour
-    Picture {
-        /// The sheet, if not on standard input; or the sheet before
-        sheet: Option<PathBuf>,
-        /// The sheet after
-        after: Option<PathBuf>,
-        #[command(flatten)]
-        destination: Destination,
-    },
+    Picture(Showing),
     /// A hedge of nine hundred points, one gate post moved; writes hedge.svg here
     Demo,
     /// Completions of this command for a shell
@@ -99,4 +46,69 @@ pub enum Command {
         /// The shell that they are for
         shell: Shell,
     },
+}
+
+/// What keep and draw take. Numbers come as words, here and below: one that is
+/// none is refused in this command's own words.
+#[derive(Args)]
+pub struct Drawing {
+    /// How finely arcs are drawn: 1 to 8, 8 is the finest
+    #[arg(allow_negative_numbers = true)]
+    pub grade: String,
+    /// The path text, if not on standard input
+    pub path: Option<PathBuf>,
+    #[command(flatten)]
+    pub destination: Destination,
+}
+
+/// What read takes.
+#[derive(Args)]
+pub struct Reading {
+    /// The sheet, if not on standard input
+    pub sheet: Option<PathBuf>,
+    #[command(flatten)]
+    pub destination: Destination,
+}
+
+/// What replace takes.
+#[derive(Args)]
+pub struct Replacing {
+    /// The number of the vertex, from 0 on
+    #[arg(value_name = "K", allow_negative_numbers = true)]
+    pub index: String,
+    /// Where it stands then, across
+    #[arg(allow_negative_numbers = true)]
+    pub x: String,
+    /// Where it stands then, upwards
+    #[arg(allow_negative_numbers = true)]
+    pub y: String,
+    /// Its radius then
+    #[arg(allow_negative_numbers = true)]
+    pub radius: String,
+    /// The sheet, if not on standard input
+    pub sheet: Option<PathBuf>,
+    #[command(flatten)]
+    pub destination: Destination,
+}
+
+/// What changed takes.
+#[derive(Args)]
+pub struct Comparing {
+    /// The sheet before
+    pub before: PathBuf,
+    /// The sheet after
+    pub after: PathBuf,
+    #[command(flatten)]
+    pub destination: Destination,
+}
+
+/// What picture takes.
+#[derive(Args)]
+pub struct Showing {
+    /// The sheet, if not on standard input; or the sheet before
+    pub sheet: Option<PathBuf>,
+    /// The sheet after
+    pub after: Option<PathBuf>,
+    #[command(flatten)]
+    pub destination: Destination,
 }

@@ -1,6 +1,6 @@
 //! What each command does.
 
-use crate::arguments::{Arguments, Command};
+use crate::arguments::{Arguments, Command, Comparing, Drawing, Reading, Replacing, Showing};
 use crate::calls;
 use crate::changes::Changes;
 use crate::demo;
@@ -19,76 +19,72 @@ use std::path::PathBuf;
 /// Runs a command.
 pub fn run(command: Command) -> Result<(), Failure> {
     match command {
-        Command::Keep {
-            grade,
-            path,
-            destination,
-        } => {
-            let grade = grade_of(&grade)?;
-            let keep = |text: Vec<u8>| calls::keep(&numbers(&text)?, grade);
-            destination.write(&Source::named(path).take(keep)?)
-        }
-        Command::Read { sheet, destination } => {
-            let (path, _) = Source::named(sheet).take(|sheet| calls::read(&sheet))?;
-            destination.write(&rows(&path))
-        }
-        Command::Draw {
-            grade,
-            path,
-            destination,
-        } => {
-            let grade = grade_of(&grade)?;
-            let draw = |text: Vec<u8>| calls::draw(&numbers(&text)?, grade);
-            destination.write(&rows(&Source::named(path).take(draw)?))
-        }
-        Command::Replace {
-            index,
-            x,
-            y,
-            radius,
-            sheet,
-            destination,
-        } => {
-            let (index, vertex) = vertex_of(&index, [&x, &y, &radius])?;
-            let replace = |sheet| calls::replace(sheet, index, vertex);
-            destination.write(&Source::named(sheet).take(replace)?)
-        }
-        Command::Changed {
-            before,
-            after,
-            destination,
-        } => {
-            let (before, after) = (sheet_of(Some(before))?, sheet_of(Some(after))?);
-            destination.write(report::of(&before, &after)?.as_bytes())
-        }
-        Command::Picture {
-            sheet,
-            after,
-            destination,
-        } => show(sheet, after, &destination),
+        Command::Keep(asked) => keep(asked),
+        Command::Read(asked) => read(asked),
+        Command::Draw(asked) => draw(asked),
+        Command::Replace(asked) => replace(asked),
+        Command::Changed(asked) => compare(asked),
+        Command::Picture(asked) => show(asked),
         Command::Demo => demo::run(),
         Command::Completions { shell } => complete(shell),
     }
 }
 
-/// A sound sheet from a file or from standard input.
-fn sheet_of(file: Option<PathBuf>) -> Result<Sheet, Failure> {
-    Source::named(file).take(Sheet::sound)
+/// A path as a sheet.
+fn keep(asked: Drawing) -> Result<(), Failure> {
+    let grade = grade_of(&asked.grade)?;
+    let keep = |text: Vec<u8>| calls::keep(&numbers(&text)?, grade);
+    let sheet = Source::named(asked.path).take(keep)?;
+    asked.destination.write(&sheet)
+}
+
+/// A sheet's path as text.
+fn read(asked: Reading) -> Result<(), Failure> {
+    let (path, _) = Source::named(asked.sheet).take(|sheet| calls::read(&sheet))?;
+    asked.destination.write(&rows(&path))
+}
+
+/// A path's boundary as text.
+fn draw(asked: Drawing) -> Result<(), Failure> {
+    let grade = grade_of(&asked.grade)?;
+    let draw = |text: Vec<u8>| calls::draw(&numbers(&text)?, grade);
+    let edges = Source::named(asked.path).take(draw)?;
+    asked.destination.write(&rows(&edges))
+}
+
+/// A sheet with another vertex.
+fn replace(asked: Replacing) -> Result<(), Failure> {
+    let (index, vertex) = vertex_of(&asked.index, [&asked.x, &asked.y, &asked.radius])?;
+    let replace = |sheet| calls::replace(sheet, index, vertex);
+    let sheet = Source::named(asked.sheet).take(replace)?;
+    asked.destination.write(&sheet)
+}
+
+/// What differs between two sheets.
+fn compare(asked: Comparing) -> Result<(), Failure> {
+    let before = sheet_of(Some(asked.before))?;
+    let after = sheet_of(Some(asked.after))?;
+    let report = report::of(&before, &after)?;
+    asked.destination.write(report.as_bytes())
 }
 
 /// The picture of one sheet, or of two.
-fn show(
-    sheet: Option<PathBuf>,
-    after: Option<PathBuf>,
-    destination: &Destination,
-) -> Result<(), Failure> {
-    let sheet = sheet_of(sheet)?;
-    let Some(after) = after else {
-        return destination.write(picture::of_one(&sheet).as_bytes());
+fn show(asked: Showing) -> Result<(), Failure> {
+    let sheet = sheet_of(asked.sheet)?;
+    let picture = match asked.after {
+        None => picture::of_one(&sheet),
+        Some(after) => {
+            let after = sheet_of(Some(after))?;
+            let changes = Changes::between(&sheet, &after)?;
+            picture::of_two(&sheet, &after, &changes)
+        }
     };
-    let after = sheet_of(Some(after))?;
-    let changes = Changes::between(&sheet, &after)?;
-    destination.write(picture::of_two(&sheet, &after, &changes).as_bytes())
+    asked.destination.write(picture.as_bytes())
+}
+
+/// A sound sheet from a file or from standard input.
+fn sheet_of(file: Option<PathBuf>) -> Result<Sheet, Failure> {
+    Source::named(file).take(Sheet::sound)
 }
 
 /// A shell's completions, on standard output.

@@ -75,48 +75,50 @@ impl Display for Failure {
     }
 }
 
-/// A refusal with its reply's number, what document 01 says of it, and the
-/// number beside it. The library's own words are shorter and name no number.
+/// A refusal with its reply's number. The library's own words are shorter and
+/// name no number.
 fn fmt_refusal(refusal: &Refusal, formatter: &mut Formatter) -> fmt::Result {
-    let (reply, meaning) = match refusal {
-        Refusal::NotTriples(count) => (
-            1,
-            format!("the numbers lent are not a multiple of three; there are {count}"),
-        ),
-        Refusal::TooMany(count) => (2, format!("above 4096 vertices; there are {count}")),
-        Refusal::Grade(grade) => (3, format!("the grade is not 1 to 8; it is {grade}")),
-        Refusal::Outside(index) => (
-            4,
-            format!(
-                "a vertex is outside the limits; the first such vertex is number {index}, counted from 0 \
-                 (x and y are -268435456 to 268435456, a radius is 0 to 268435456)"
-            ),
-        ),
-        Refusal::NoRoom(needed) => (
-            5,
-            format!("the result is longer than the room lent; it needs {needed}"),
-        ),
-        Refusal::NotOutline => (
-            6,
-            "this is no sheet: it has under 24 bytes, or its edition is not 1, \
-             or it is shorter than its header says"
-                .to_string(),
-        ),
-        Refusal::Kind(kind) => (7, format!("the sheet's kind is not 0; it is {kind}")),
-        Refusal::NotSound(byte) => (
-            8,
-            format!(
-                "the sheet is not sound: its bytes are not those that its own vertices and grade give; \
-                 the first that differs is number {byte}, counted from 0"
-            ),
-        ),
-        Refusal::NoVertex(index) => (
-            9,
-            format!(
-                "the index is not below the number of vertices; it is {index} \
-                 (vertices are counted from 0)"
-            ),
-        ),
+    let reply = match refusal {
+        Refusal::NotTriples(_) => 1,
+        Refusal::TooMany(_) => 2,
+        Refusal::Grade(_) => 3,
+        Refusal::Outside(_) => 4,
+        Refusal::NoRoom(_) => 5,
+        Refusal::NotOutline => 6,
+        Refusal::Kind(_) => 7,
+        Refusal::NotSound(_) => 8,
+        Refusal::NoVertex(_) => 9,
     };
+    let meaning = meaning(refusal);
     write!(formatter, "refused with reply {reply}: {meaning}")
+}
+
+/// What document 01 says of a refusal, and the number beside it.
+fn meaning(refusal: &Refusal) -> String {
+    match refusal {
+        Refusal::NotTriples(count) => {
+            format!("the numbers lent are not a multiple of three; there are {count}")
+        }
+        Refusal::TooMany(count) => format!("above 4096 vertices; there are {count}"),
+        Refusal::Grade(grade) => format!("the grade is not 1 to 8; it is {grade}"),
+        Refusal::Outside(index) => format!(
+            "a vertex is outside the limits; the first such vertex is number {index}, counted from 0 \
+             (x and y are -268435456 to 268435456, a radius is 0 to 268435456)"
+        ),
+        Refusal::NoRoom(needed) => {
+            format!("the result is longer than the room lent; it needs {needed}")
+        }
+        Refusal::NotOutline => "this is no sheet: it has under 24 bytes, or its edition is not 1, \
+                                or it is shorter than its header says"
+            .to_string(),
+        Refusal::Kind(kind) => format!("the sheet's kind is not 0; it is {kind}"),
+        Refusal::NotSound(byte) => format!(
+            "the sheet is not sound: its bytes are not those that its own vertices and grade give; \
+             the first that differs is number {byte}, counted from 0"
+        ),
+        Refusal::NoVertex(index) => format!(
+            "the index is not below the number of vertices; it is {index} \
+             (vertices are counted from 0)"
+        ),
+    }
 }

@@ -8,7 +8,8 @@ use std::process;
 /// Puts bytes in the place of a file: into a draft beside it, which is synced
 /// and then renamed, so that a crash or a full disk leaves the old file. What a
 /// link points to is replaced, not the link. What is no ordinary file, as a
-/// device or a pipe, cannot be replaced and is written as it is.
+/// device or a pipe, cannot be replaced and is written as it is; and what may
+/// not be written is not replaced either.
 pub fn write(path: &Path, bytes: &[u8]) -> io::Result<()> {
     let place = path.canonicalize().unwrap_or_else(|_| path.to_owned());
     match fs::metadata(&place) {
@@ -16,6 +17,7 @@ pub fn write(path: &Path, bytes: &[u8]) -> io::Result<()> {
             .write(true)
             .open(&place)?
             .write_all(bytes),
+        Ok(there) if there.permissions().readonly() => Err(ErrorKind::PermissionDenied.into()),
         Ok(there) => replace(&place, bytes, Some(there.permissions())),
         Err(_) => replace(&place, bytes, None),
     }
