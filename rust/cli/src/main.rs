@@ -14,7 +14,6 @@ mod path_text;
 mod picture;
 mod progress;
 mod ranges;
-mod reach;
 mod report;
 mod sentence;
 mod sheet;

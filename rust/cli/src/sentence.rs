@@ -5,8 +5,8 @@
 use crate::changes::{count, first_marked, Changes};
 use crate::failure::Failure;
 use crate::ranges::{number, range};
-use crate::reach::reach;
 use crate::sheet::Sheet;
+use sehmelir::reach;
 
 /// What follows of two sheets.
 pub enum Sentence {
