@@ -1,28 +1,26 @@
 // An arc of any kind, counterclockwise about a centre.
-use crate::Pen;
-use crate::Sweep;
-use crate::Turning;
 use crate::circle::circle;
-use crate::counting::turns;
-use crate::edges::edge;
-use crate::folding::fold;
-use crate::kinds::empty;
-use crate::kinds::full;
-use crate::kinds::sweep;
+use crate::circle::swept;
+use folds::Pen;
 use number::root::root;
 use plane::Point;
 use plane::direction::direction;
 use plane::direction::measured;
 use plane::vectors::from_to;
 use plane::vectors::square;
+use turning::Sweep;
+use turning::edges::edge;
+use turning::kinds::empty;
+use turning::kinds::full;
+use turning::kinds::sweep;
 ghost use mathlib.Core.List.{_++_};
 ghost use Rattle.runs.specs.Runs.{Room};
 ghost use Rattle.plane.specs.Vectors.{fromTo};
 ghost use Rattle.plane.specs.Directions.{UnitLong};
-ghost use Rattle.arc.specs.Edges.{edgeNumbers, edgeOf};
-ghost use Rattle.arc.specs.Arcs.{ringOf, circleOf, arcOf};
-ghost use Rattle.arc.specs.Bounds.{Centre, Radius, About};
-ghost use Rattle.arc.specs.Folds.{Lays};
+ghost use Rattle.turning.specs.Edges.{edgeNumbers, edgeOf};
+ghost use Rattle.turning.specs.Arcs.{ringOf, circleOf, arcOf};
+ghost use Rattle.turning.specs.Bounds.{Centre, Radius, About};
+ghost use Rattle.folds.specs.Pens.{Lays};
 
 // A full arc: the circle through p, rounded inwards, then the straight edge.
 fn ring(out: &mut [i32], at: usize, pen: Pen, c: Point, p: Point, q: Point) -> usize
@@ -64,16 +62,5 @@ pub fn arc(
     if full(w, d, e) {
         return ring(out, at, pen, c, p, q);
     }
-    let t = pen.step;
-    let r = Turning {
-        step: t,
-        centre: c,
-        radius: radius,
-        to: q,
-        toward: e,
-    };
-    if pen.folds {
-        return fold(out, at, r, d, p);
-    }
-    turns(out, at, r, d, p)
+    swept(out, at, pen, c, radius, p, d, q, e)
 }

@@ -1,22 +1,22 @@
 // An arc between two points at about one distance from its centre, and a circle, which is two of them.
-use crate::Pen;
-use crate::Turning;
-use crate::counting::turns;
-use crate::folding::fold;
-use crate::turn::moved;
+use folds::Pen;
+use folds::folding::fold;
+use leaps::turns::turns;
 use plane::Point;
 use plane::Vector;
+use turning::Turning;
+use turning::turn::moved;
 ghost use mathlib.Core.Path.{_≡_};
 ghost use Rattle.runs.specs.Runs.{Room};
 ghost use Rattle.plane.specs.Vectors.{fromTo};
 ghost use Rattle.plane.specs.Directions.{UnitLong, directionOf};
-ghost use Rattle.arc.specs.Edges.{edgeNumbers};
-ghost use Rattle.arc.specs.Arcs.{sweptOf, eastOf, westOf, circleOf};
-ghost use Rattle.arc.specs.Bounds.{Centre, Radius, About};
-ghost use Rattle.arc.specs.Folds.{Lays};
+ghost use Rattle.turning.specs.Edges.{edgeNumbers};
+ghost use Rattle.turning.specs.Arcs.{sweptOf, eastOf, westOf, circleOf};
+ghost use Rattle.turning.specs.Bounds.{Centre, Radius, About};
+ghost use Rattle.folds.specs.Pens.{Lays};
 
 // From p, in the direction d, to q, in the direction e, about c by steps of the pen, the inner points at the radius.
-fn swept(
+pub fn swept(
     out: &mut [i32],
     at: usize,
     pen: Pen,

@@ -8,9 +8,9 @@ use mir.Facts.{toZ-ofZ}
 use mir.Syntax.{w32, w64}
 use mir.Val.{SFits, toZ, ofZ}
 use Rattle.plane.proofs.Products.{bits, back}
-use Rattle.variable_stroke.specs.declared.Vertex.{Vertex}
-use Rattle.outline.specs.Answers.{Replaces}
-use Rattle.outline.specs.declared.Replaced.{Replaced}
+use Rattle.contacts.specs.declared.Vertex.{Vertex}
+use Rattle.editing.specs.Replacing.{Replaces}
+use Rattle.editing.specs.declared.Replaced.{Replaced}
 
 wider : {x : ℤ} → SFits w32 x → SFits w64 x
 wider h = record { sfits = omega (arith, h .sfits) }

@@ -1,34 +1,37 @@
 // The calls with room of their own: a path's edges, its kept outline, the path of an outline, another vertex in one, and how far that reaches.
-use variable_stroke::Vertex;
-ghost use Rattle.outline.specs.Answers.{Draws, Keeps, Reads, Replaces};
+use contacts::Vertex;
+ghost use Rattle.drawing.specs.Drawing.{Draws};
+ghost use Rattle.keeping.specs.Keeping.{Keeps};
+ghost use Rattle.reading.specs.Reading.{Reads};
+ghost use Rattle.editing.specs.Replacing.{Replaces};
 ghost use Rattle.reaching.specs.Replies.{Reaches};
 
 // Draws a path's edges into lent numbers, four an edge.
-pub fn draw(path: &[i32], grade: u32, out: &mut [i32]) -> outline::Drawn
+pub fn draw(path: &[i32], grade: u32, out: &mut [i32]) -> drawing::Drawn
     ensures { λ r. ⌜ Draws (now (path .entry)) grade (now (out .entry)) r (now (out .exit)) ⌝ }
 {
-    outline::drawing::draw(path, grade, out)
+    drawing::draw(path, grade, out)
 }
 
 // Keeps a path's outline as bytes.
-pub fn keep(path: &[i32], grade: u32, out: &mut [u8]) -> outline::Kept
+pub fn keep(path: &[i32], grade: u32, out: &mut [u8]) -> keeping::Kept
     ensures { λ r. ⌜ Keeps (now (path .entry)) grade (now (out .entry)) r (now (out .exit)) ⌝ }
 {
     let mut own = [0i32; 36908];
-    outline::keeping::keep_with(path, grade, &mut own, out)
+    keeping::keep_with(path, grade, &mut own, out)
 }
 
 // Reads the path of a sound outline into lent numbers, three a vertex.
-pub fn read(store: &[u8], out: &mut [i32]) -> outline::Read
+pub fn read(store: &[u8], out: &mut [i32]) -> reading::Read
     ensures { λ r. ⌜ Reads (now (store .entry)) (now (out .entry)) r (now (out .exit)) ⌝ }
 {
     let mut path = [0i32; 12288];
     let mut own = [0i32; 36908];
-    outline::reading::read_with(store, out, &mut path, &mut own)
+    reading::read_with(store, out, &mut path, &mut own)
 }
 
 // Replaces a vertex of a sound outline, in place.
-pub fn replace(store: &mut [u8], index: usize, x: i32, y: i32, radius: i32) -> outline::Replaced
+pub fn replace(store: &mut [u8], index: usize, x: i32, y: i32, radius: i32) -> editing::Replaced
     ensures { λ r. ⌜ Replaces (now (store .entry)) index (record { x = x; y = y; radius = radius }) r (now (store .exit)) ⌝ }
 {
     let mut path = [0i32; 12288];
@@ -38,7 +41,7 @@ pub fn replace(store: &mut [u8], index: usize, x: i32, y: i32, radius: i32) -> o
         y: y as i64,
         radius: radius as i64,
     };
-    outline::replacing::replace_with(store, index, v, &mut path, &mut own)
+    editing::replacing::replace_with(store, index, v, &mut path, &mut own)
 }
 
 // Tells how far replacing a vertex of a sound outline can reach.

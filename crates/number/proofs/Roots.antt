@@ -8,7 +8,8 @@ use native.Mathlib.Omega.{arith}
 use lib.Dec.{leb, ltb}
 use borrow.Author.Tests.{leb-true, leb-false, le-leb, lt-leb, ltb-true, ltb-false}
 use Rattle.whole.proofs.Squares.{square-next, square-double, square-below, square-most, below-next, square-lt}
-use Rattle.number.specs.Root.{Root, correctedOf, rootIn, rootOf, rootUpOf, More}
+use Rattle.number.specs.Root.{Root, correctedOf, rootIn, rootOf, rootUpOf}
+use Rattle.number.specs.Guesses.{More}
 
 -- ---- the root of n from that of n / 4
 

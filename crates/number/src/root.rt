@@ -5,7 +5,8 @@ use crate::wide::high;
 ghost use mathlib.Core.Path.{_≡_};
 ghost use Prim.Native.Nat.{_*_, _^_, _<_, _≤_};
 ghost use lib.Dec.{leb};
-ghost use Rattle.number.specs.Root.{rootOf, rootUpOf, More};
+ghost use Rattle.number.specs.Root.{rootOf, rootUpOf};
+ghost use Rattle.number.specs.Guesses.{More};
 
 // The largest r with r * r <= n, from the root q of n / 4: twice q, or one more where (2q + 1)^2 = 4(q^2 + q) + 1 is at most n.
 pub fn root(n: u64) -> u32

@@ -3,7 +3,7 @@
 use mathlib.Core.Path.{_≡_, refl, sym, ap, _∙_}
 use mathlib.Core.Bool.{Bool, true, false}
 use mathlib.Core.List.{List, [], _∷_, _++_, append-assoc, append-nil}
-use Prim.Native.Nat.{ℕ, zero, suc, _+_, _-_, _*_, _≤_, _<_}
+use Prim.Native.Nat.{ℕ, zero, suc, _+_, _*_, _≤_, _<_}
 use native.Mathlib.Nat.{le-antisymm}
 use native.Mathlib.Omega.{arith}
 use borrow.Author.Tests.{ltb-true, ltb-false}
@@ -12,14 +12,15 @@ use lib.ListN.{length, getD, take, drop, length-append}
 use lib.Seq.{take-suc, split-at, take-at, drop-at}
 use Rattle.runs.specs.Runs.{spread}
 use Rattle.runs.proofs.Laws.{spread-append}
-use Rattle.arc.specs.declared.Edge.{Edge}
-use Rattle.variable_stroke.specs.Paths.{bodiesOf, joined}
-use Rattle.variable_stroke.specs.declared.Vertex.{Vertex}
+use Rattle.turning.specs.declared.Edge.{Edge}
+use Rattle.paths.specs.Paths.{bodiesOf, joined, Within}
+use Rattle.contacts.specs.declared.Vertex.{Vertex}
 use Rattle.outline.specs.Layout.{headerWords, entryWords, entryAt, edgeBytes, lengthOf}
-use Rattle.outline.specs.Words.{fourBytes, bytesOf, headerOf, entryOf, tableOf, bodyWords, wordsWith, outlineWords, outlineBytes}
-use Rattle.outline.specs.Stores.{wordsIn, wordAt, countIn, edgesIn, edgesBefore, bodyBytesIn}
-use Rattle.outline.specs.Theorems.{Within}
-use Rattle.outline.proofs.ReadBack.{bodies-count, table-length, numbers-length, bytes-length, header-word}
+use Rattle.words.specs.Words.{fourBytes, bytesOf, wordsIn, wordAt}
+use Rattle.outline.specs.Outlines.{headerOf, entryOf, tableOf, bodyWords, wordsWith, outlineWords, outlineBytes}
+use Rattle.outline.specs.Stores.{countIn, edgesIn, edgesBefore, bodyBytesIn}
+use Rattle.outline.proofs.ReadBack.{bodies-count, table-length, numbers-length, header-word}
+use Rattle.words.proofs.Bytes.{bytes-length}
 use Rattle.outline.proofs.Parts.{body-append}
 
 -- ---- bodies one after another

@@ -3,7 +3,7 @@
 use mathlib.Core.Path.{_≡_, refl, sym, ap, _∙_}
 use mathlib.Core.Bool.{Bool, true, false, true≢false}
 use mathlib.Core.List.{List, [], _∷_, _++_}
-use Prim.Native.Nat.{ℕ, zero, suc, _+_, _-_, _*_, _/_, _%_, _^_, _≤_, _<_}
+use Prim.Native.Nat.{ℕ, zero, suc, _+_, _*_, _/_, _%_, _^_, _≤_, _<_}
 use native.Mathlib.Nat.{div-div-eq-div-mul}
 use native.Mathlib.Omega.{arith}
 use lib.Dec.{eqb}
@@ -11,15 +11,18 @@ use lib.ListN.{length, getD, take, drop, length-drop}
 use lib.Seq.{length-take-le}
 use borrow.Author.Tests.{eq-eqb, eqb-true, eqb-false}
 use Rattle.runs.specs.Runs.{spread}
-use Rattle.variable_stroke.specs.Paths.{bodiesOf, joined, edgesOf}
-use Rattle.variable_stroke.specs.declared.Vertex.{Vertex}
+use Rattle.paths.specs.Paths.{bodiesOf, joined, edgesOf}
+use Rattle.contacts.specs.declared.Vertex.{Vertex}
 use Rattle.outline.specs.Layout.{lengthOf}
-use Rattle.outline.specs.Words.{fourBytes, bytesOf, headerOf, tableOf, bodyWords, wordsWith, outlineWords, outlineBytes}
-use Rattle.outline.specs.Stores.{wordsIn, wordAt, editionIn, kindIn, gradeIn, countIn, lengthIn, entriesIn, pathIn, dueIn, sameBytes, soundOf, firstDiffering, differingIn}
+use Rattle.words.specs.Words.{fourBytes, bytesOf, wordsIn, wordAt}
+use Rattle.outline.specs.Outlines.{headerOf, tableOf, bodyWords, wordsWith, outlineWords, outlineBytes}
+use Rattle.outline.specs.Stores.{editionIn, kindIn, gradeIn, countIn, lengthIn, entriesIn, pathIn, dueIn, sameBytes, soundOf, firstDiffering, differingIn}
 use Rattle.outline.specs.Theorems.{Bytes, DifferingInside}
-use Rattle.outline.proofs.ReadBack.{four-back, outline-length, edges-few}
+use Rattle.words.proofs.Bytes.{four-back}
+use Rattle.outline.proofs.ReadBack.{outline-length, edges-few}
 
 -- ---- lists that are not the same differ first at a place inside both, where they are of one length
+
 first-inside : (l m : List ℕ) → length l ≡ length m → sameBytes l m ≡ false → firstDiffering l m < length l
 unfolding sameBytes firstDiffering
 first-inside [] [] e f = absurd (true≢false f)
@@ -50,6 +53,7 @@ first-below (a ∷ l) (b ∷ m) x y e n = go (eqb a b) refl (first-below l m x y
     go false p r = omega arith
 
 -- ---- bytes are those of their words
+
 digit : (w a q : ℕ) → a < 256 → w ≡ a + 256 * q → (w % 256 ≡ a) × (w / 256 ≡ q)
 digit w a q h e = (omega arith, omega arith)
 
@@ -98,6 +102,7 @@ entries-full (suc n) (x ∷ y ∷ r ∷ []) h = absurd (omega arith)
 entries-full (suc n) (x ∷ y ∷ r ∷ c ∷ ws) h = ap suc (entries-full n ws (omega arith))
 
 -- ---- the header's words
+
 five : (ws : List ℕ) → 5 ≤ length ws → ws ≡ getD ws 0 0 ∷ getD ws 1 0 ∷ getD ws 2 0 ∷ getD ws 3 0 ∷ getD ws 4 0 ∷ drop 5 ws
 five [] h = absurd (omega arith)
 five (a ∷ []) h = absurd (omega arith)

@@ -8,16 +8,16 @@ use lib.ListN.{length, take, drop}
 use lib.Seq.{take-at}
 use Rattle.runs.specs.Runs.{spread, Runs, Room, put}
 use Rattle.runs.proofs.Written.{written-length, written-whole}
-use Rattle.arc.specs.Edges.{edgeNumbers}
-use Rattle.arc.specs.Bounds.{Most}
-use Rattle.arc.specs.declared.Edge.{Edge}
-use Rattle.arc.proofs.Most.{most-up}
+use Rattle.turning.specs.Edges.{edgeNumbers}
+use Rattle.turning.specs.Bounds.{Most}
+use Rattle.turning.specs.declared.Edge.{Edge}
+use Rattle.turning.proofs.Most.{most-up, edges-four}
 use Rattle.plane.specs.declared.Vector.{Vector}
 use Rattle.variable_stroke.specs.declared.Walk.{Walk}
-use Rattle.variable_stroke.proofs.Most.{finish-most}
-use Rattle.outline.specs.Words.{wordsOf, bodyWords}
-use Rattle.outline.specs.Fills.{closeOf}
-use Rattle.arc.proofs.Most.{edges-four}
+use Rattle.paths.proofs.Most.{finish-most}
+use Rattle.words.specs.Words.{wordsOf}
+use Rattle.outline.specs.Outlines.{bodyWords}
+use Rattle.variable_stroke.specs.Chains.{closeOf}
 
 -- the closing body has no more edges than a step
 pub close-most : (t : Vector) (w : Walk) → Most 9227 (closeOf t w)

@@ -4,27 +4,13 @@ use mathlib.Core.List.{List, [], _∷_}
 use Prim.Native.Nat.{ℕ, zero, suc, _+_, _*_}
 use lib.Dec.{eqb, ltb}
 use lib.IntN.{pos}
-use lib.ListN.{getD, take, drop}
-use Rattle.arc.specs.declared.Edge.{Edge}
-use Rattle.variable_stroke.specs.Paths.{bodiesOf}
-use Rattle.variable_stroke.specs.declared.Vertex.{Vertex}
+use lib.ListN.{take, drop}
+use Rattle.turning.specs.declared.Edge.{Edge}
+use Rattle.paths.specs.Paths.{bodiesOf}
+use Rattle.contacts.specs.declared.Vertex.{Vertex}
 use Rattle.outline.specs.Layout.{headerWords, entryAt, edgeBytes, frontBytes, lengthOf}
-use Rattle.outline.specs.Words.{numberOf, outlineBytes}
-
--- the word that begins at a byte of a store
-unfoldable pub wordFrom : List ℕ → ℕ → ℕ
-wordFrom store at = getD store at 0 + 256 * getD store (at + 1) 0 + 65536 * getD store (at + 2) 0 + 16777216 * getD store (at + 3) 0
-
--- the words of a store; bytes left over are none
-unfoldable pub wordsIn : List ℕ → List ℕ
-wordsIn [] = []
-wordsIn (a ∷ []) = []
-wordsIn (a ∷ b ∷ []) = []
-wordsIn (a ∷ b ∷ c ∷ []) = []
-wordsIn (a ∷ b ∷ c ∷ d ∷ l) = (a + 256 * b + 65536 * c + 16777216 * d) ∷ wordsIn l
-
-unfoldable pub wordAt : List ℕ → ℕ → ℕ
-wordAt store i = getD (wordsIn store) i 0
+use Rattle.words.specs.Words.{numberOf, wordsIn, wordAt}
+use Rattle.outline.specs.Outlines.{outlineBytes}
 
 -- Header: edition, kind, grade, vertices n, edges m.
 unfoldable pub editionIn : List ℕ → ℕ

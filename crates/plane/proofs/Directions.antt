@@ -14,7 +14,8 @@ use Rattle.number.specs.MulDiv.{withSign, mulDivOf}
 use Rattle.number.proofs.Roots.{root-is, root-only}
 use Rattle.number.proofs.Nearest.{mul-div-by, nearest-most, sign-size}
 use Rattle.plane.specs.Vectors.{Short, squareOf}
-use Rattle.plane.specs.Directions.{partOf, componentOf, directionOf, stepOf, rotatedOf, UnitLong, Settles, Measures}
+use Rattle.plane.specs.Directions.{partOf, componentOf, directionOf, stepOf, rotatedOf, UnitLong}
+use Rattle.plane.specs.Swings.{Settles, Measures}
 use Rattle.plane.proofs.Products.{bits, back, short-fits}
 use mir.Syntax.{w64}
 use mir.Val.{SFits}

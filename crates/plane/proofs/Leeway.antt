@@ -11,7 +11,7 @@ use Rattle.whole.proofs.Sizes.{abs-neg}
 use Rattle.whole.proofs.Division.{quot-rem}
 use Rattle.plane.specs.Vectors.{crossOf, dotOf, squareOf}
 use Rattle.plane.specs.Directions.{rotatedOf, UnitLong}
-use Rattle.plane.specs.Within.{lessOf, Within}
+use Rattle.plane.specs.OffBy.{lessOf, OffBy}
 use Rattle.plane.specs.declared.Vector.{Vector}
 use Rattle.plane.proofs.Norms.{Most, sum-most, most-add, most-neg, most-sub, most-more, most-same, most-product, most-scaled, most-shrunk, most-first, most-second, most-parts, most-turned, product-far, square-sum, remainders-most}
 
@@ -136,11 +136,11 @@ thrice-second c s x y z w = simp (mul-addℤ, add-mulℤ, mul-negℤ, neg-mulℤ
 
 -- ---- as bounds of pairs
 
-within-most : {a : ℕ} {u v : Vector} → Within a u v → Most a (u .x -ℤ v .x) (u .y -ℤ v .y)
+within-most : {a : ℕ} {u v : Vector} → OffBy a u v → Most a (u .x -ℤ v .x) (u .y -ℤ v .y)
 unfolding squareOf lessOf
 within-most h = record { most = h .within }
 
-most-within : {a : ℕ} (u v : Vector) → Most a (u .x -ℤ v .x) (u .y -ℤ v .y) → Within a u v
+most-within : {a : ℕ} (u v : Vector) → Most a (u .x -ℤ v .x) (u .y -ℤ v .y) → OffBy a u v
 unfolding squareOf lessOf
 most-within u v h = record { within = h .most }
 
@@ -148,13 +148,13 @@ pub unit-most : (v : Vector) → UnitLong v → Most (2 ^ 30) (v .x) (v .y)
 unfolding squareOf
 unit-most v h = record { most = h .length }
 
-pub within-same : (v : Vector) → Within 0 v v
+pub within-same : (v : Vector) → OffBy 0 v v
 within-same v = most-within v v (most-same (nothing (v .x)) (nothing (v .y)) (record { most = omega arith }))
 
-pub within-more : {a b : ℕ} {u v : Vector} → a ≤ b → Within a u v → Within b u v
+pub within-more : {a b : ℕ} {u v : Vector} → a ≤ b → OffBy a u v → OffBy b u v
 within-more {a} {b} {u} {v} h k = most-within u v (most-more h (within-most k))
 
-pub within-then : {a b : ℕ} (u v w : Vector) → Within a u v → Within b v w → Within (a + b) u w
+pub within-then : {a b : ℕ} (u v w : Vector) → OffBy a u v → OffBy b v w → OffBy (a + b) u w
 within-then u v w h k = most-within u w (most-same (through (u .x) (v .x) (w .x)) (through (u .y) (v .y) (w .y)) (most-add (within-most h) (within-most k)))
 
 -- ---- a turn
@@ -195,7 +195,7 @@ turned-less-y t u v w =
     quotients-less (rotatedOf t u .y) (rotatedOf v w .y) _ _ (restOf t u .y) (restOf v w .y) (pos (2 ^ 30)) (turned-y t u) (turned-y v w)
 
 rotations-within : (a : ℕ) (t u v w : Vector) → Most (a * 2 ^ 30) (firstOf t u -ℤ firstOf v w) (secondOf t u -ℤ secondOf v w)
-    → Within (a + 3) (rotatedOf t u) (rotatedOf v w)
+    → OffBy (a + 3) (rotatedOf t u) (rotatedOf v w)
 rotations-within a t u v w h =
     most-within (rotatedOf t u) (rotatedOf v w)
     (most-shrunk (a + 3) (2 ^ 30) _ _ (omega arith)
@@ -203,7 +203,7 @@ rotations-within a t u v w h =
     (most-more {a = a * 2 ^ 30 + (3 * 2 ^ 29 + 3 * 2 ^ 29)} (omega arith) (most-sub h (most-sub (rest-most t u) (rest-most v w))))))
 
 -- turned by one step, they lie as near, but for what two divisions leave
-pub turned-within : {a : ℕ} (t u v : Vector) → UnitLong t → Within a u v → Within (a + 3) (rotatedOf t u) (rotatedOf t v)
+pub turned-within : {a : ℕ} (t u v : Vector) → UnitLong t → OffBy a u v → OffBy (a + 3) (rotatedOf t u) (rotatedOf t v)
 turned-within {a} t u v h k =
     rotations-within a t u t v
     (most-same
@@ -241,7 +241,7 @@ twice-second t u v =
     ∙ sym (factor-second (v .x) (v .y) (q .x) (q .y) (restOf t u .x) (restOf t u .y) n))
 
 -- turned by one step and then another, or by the two at once
-pub turned-twice : (t u v : Vector) → UnitLong t → UnitLong v → Within 6 (rotatedOf t (rotatedOf u v)) (rotatedOf (rotatedOf t u) v)
+pub turned-twice : (t u v : Vector) → UnitLong t → UnitLong v → OffBy 6 (rotatedOf t (rotatedOf u v)) (rotatedOf (rotatedOf t u) v)
 turned-twice t u v h l =
     rotations-within 3 t (rotatedOf u v) (rotatedOf t u) v
     (most-shrunk (3 * 2 ^ 30) (2 ^ 30) _ _ (omega arith)
@@ -249,57 +249,57 @@ turned-twice t u v h l =
     (most-more {a = 3 * 2 ^ 29 * 2 ^ 30 + 2 ^ 30 * (3 * 2 ^ 29)} (omega arith)
     (most-sub (parts-most (restOf t u) v (rest-most t u) (unit-most v l)) (parts-most t (restOf u v) (unit-most t h) (rest-most u v))))))
 
--- ---- a stride
+-- ---- a sway
 
 -- what a step changes: the product with the step less 2 ^ 30
 abbrev changeOf : Vector → Vector
 changeOf t = record { x = t .x -ℤ pos (2 ^ 30); y = t .y }
 
-stride-first : (a c s x y r n : ℤ) → a *ℤ n +ℤ r ≡ c *ℤ x -ℤ s *ℤ y → (a -ℤ x) *ℤ n +ℤ r ≡ (c -ℤ n) *ℤ x -ℤ s *ℤ y
-stride-first a c s x y r n e =
+sway-first : (a c s x y r n : ℤ) → a *ℤ n +ℤ r ≡ c *ℤ x -ℤ s *ℤ y → (a -ℤ x) *ℤ n +ℤ r ≡ (c -ℤ n) *ℤ x -ℤ s *ℤ y
+sway-first a c s x y r n e =
     let m = negℤ (x *ℤ n) in
     simp (add-mulℤ, neg-mulℤ, mul-commℤ n x) (swapped (a *ℤ n) m r ∙ ap (λ (z : ℤ). z +ℤ m) e ∙ swapped (c *ℤ x) (negℤ (s *ℤ y)) m)
 
-stride-second : (b c s x y r n : ℤ) → b *ℤ n +ℤ r ≡ s *ℤ x +ℤ c *ℤ y → (b -ℤ y) *ℤ n +ℤ r ≡ s *ℤ x +ℤ (c -ℤ n) *ℤ y
-stride-second b c s x y r n e =
+sway-second : (b c s x y r n : ℤ) → b *ℤ n +ℤ r ≡ s *ℤ x +ℤ c *ℤ y → (b -ℤ y) *ℤ n +ℤ r ≡ s *ℤ x +ℤ (c -ℤ n) *ℤ y
+sway-second b c s x y r n e =
     let m = negℤ (y *ℤ n) in
     simp (add-mulℤ, neg-mulℤ, mul-commℤ n y) (swapped (b *ℤ n) m r ∙ ap (λ (z : ℤ). z +ℤ m) e ∙ add-assocℤ (s *ℤ x) (c *ℤ y) m)
 
-stride-x : (t v : Vector) → (rotatedOf t v .x -ℤ v .x) *ℤ pos (2 ^ 30) +ℤ restOf t v .x ≡ firstOf (changeOf t) v
-stride-x t v = stride-first (rotatedOf t v .x) (t .x) (t .y) (v .x) (v .y) (restOf t v .x) (pos (2 ^ 30)) (turned-x t v)
+sway-x : (t v : Vector) → (rotatedOf t v .x -ℤ v .x) *ℤ pos (2 ^ 30) +ℤ restOf t v .x ≡ firstOf (changeOf t) v
+sway-x t v = sway-first (rotatedOf t v .x) (t .x) (t .y) (v .x) (v .y) (restOf t v .x) (pos (2 ^ 30)) (turned-x t v)
 
-stride-y : (t v : Vector) → (rotatedOf t v .y -ℤ v .y) *ℤ pos (2 ^ 30) +ℤ restOf t v .y ≡ secondOf (changeOf t) v
-stride-y t v = stride-second (rotatedOf t v .y) (t .x) (t .y) (v .x) (v .y) (restOf t v .y) (pos (2 ^ 30)) (turned-y t v)
+sway-y : (t v : Vector) → (rotatedOf t v .y -ℤ v .y) *ℤ pos (2 ^ 30) +ℤ restOf t v .y ≡ secondOf (changeOf t) v
+sway-y t v = sway-second (rotatedOf t v .y) (t .x) (t .y) (v .x) (v .y) (restOf t v .y) (pos (2 ^ 30)) (turned-y t v)
 
 change-most : (t : Vector) → Most (natAbs (pos (2 ^ 30) -ℤ t .x) + natAbs (t .y)) (t .x -ℤ pos (2 ^ 30)) (t .y)
 change-most t = rw (size-flipped (pos (2 ^ 30)) (t .x)) (most-parts (t .x -ℤ pos (2 ^ 30)) (t .y))
 
 -- how far a step takes a direction
-pub stride-within : (t v : Vector) → UnitLong v → Within (natAbs (pos (2 ^ 30) -ℤ t .x) + natAbs (t .y) + 2) (rotatedOf t v) v
-stride-within t v h =
+pub sway-within : (t v : Vector) → UnitLong v → OffBy (natAbs (pos (2 ^ 30) -ℤ t .x) + natAbs (t .y) + 2) (rotatedOf t v) v
+sway-within t v h =
     let a = natAbs (pos (2 ^ 30) -ℤ t .x) + natAbs (t .y) in
-    let e = moved-last ((rotatedOf t v .x -ℤ v .x) *ℤ pos (2 ^ 30)) (firstOf (changeOf t) v) (restOf t v .x) (stride-x t v) in
-    let f = moved-last ((rotatedOf t v .y -ℤ v .y) *ℤ pos (2 ^ 30)) (secondOf (changeOf t) v) (restOf t v .y) (stride-y t v) in
+    let e = moved-last ((rotatedOf t v .x -ℤ v .x) *ℤ pos (2 ^ 30)) (firstOf (changeOf t) v) (restOf t v .x) (sway-x t v) in
+    let f = moved-last ((rotatedOf t v .y -ℤ v .y) *ℤ pos (2 ^ 30)) (secondOf (changeOf t) v) (restOf t v .y) (sway-y t v) in
     most-within (rotatedOf t v) v
     (most-shrunk (a + 2) (2 ^ 30) _ _ (omega arith)
     (most-same e f
     (most-more {a = a * 2 ^ 30 + 3 * 2 ^ 29} (omega arith) (most-sub (parts-most (changeOf t) v (change-most t) (unit-most v h)) (rest-most t v)))))
 
--- a short stride, of a direction of the length l, is one by a small step
-stride-near : (g l : ℕ) (t v : Vector) → l * l ≤ squareOf v → Within g (rotatedOf t v) v → natAbs (t .y) * l ≤ g * 2 ^ 30 + 3 * 2 ^ 29
+-- a short sway, of a direction of the length l, is one by a small step
+sway-near : (g l : ℕ) (t v : Vector) → l * l ≤ squareOf v → OffBy g (rotatedOf t v) v → natAbs (t .y) * l ≤ g * 2 ^ 30 + 3 * 2 ^ 29
 unfolding squareOf
-stride-near g l t v h k =
+sway-near g l t v h k =
     product-far l (g * 2 ^ 30 + 3 * 2 ^ 29) (t .x -ℤ pos (2 ^ 30)) (t .y) (v .x) (v .y) h
-    (most-same (sym (stride-x t v)) (sym (stride-y t v))
+    (most-same (sym (sway-x t v)) (sym (sway-y t v))
     (most-add (most-scaled (2 ^ 30) (rotatedOf t v .x -ℤ v .x) (rotatedOf t v .y -ℤ v .y) (within-most k)) (rest-most t v)))
 
 -- and at least, where the direction has the length l
-pub stride-far : (g l : ℕ) (t v : Vector) → l * l ≤ squareOf v → (g + 2) * 2 ^ 30 ≤ natAbs (t .y) * l → g * g ≤ squareOf (lessOf (rotatedOf t v) v)
-stride-far g l t v h k = go (decLe (g * g) (squareOf (lessOf (rotatedOf t v) v)))
+pub sway-far : (g l : ℕ) (t v : Vector) → l * l ≤ squareOf v → (g + 2) * 2 ^ 30 ≤ natAbs (t .y) * l → g * g ≤ squareOf (lessOf (rotatedOf t v) v)
+sway-far g l t v h k = go (decLe (g * g) (squareOf (lessOf (rotatedOf t v) v)))
   where
     go : Dec (g * g ≤ squareOf (lessOf (rotatedOf t v) v)) → g * g ≤ squareOf (lessOf (rotatedOf t v) v)
     go (yes m) = m
-    go (no f) = absurd (omega (arith, k, stride-near g l t v h (record { within = le-of-lt (lt-of-not-le f) })))
+    go (no f) = absurd (omega (arith, k, sway-near g l t v h (record { within = le-of-lt (lt-of-not-le f) })))
 
 -- ---- products with a direction
 
@@ -311,15 +311,15 @@ dot-less x y z w p q =
     simp (add-mulℤ, neg-mulℤ) (exchange-sum (x *ℤ p) (y *ℤ q) (z *ℤ p) (w *ℤ q) ∙ add-commℤ (x *ℤ p -ℤ z *ℤ p) (y *ℤ q -ℤ w *ℤ q))
 
 -- the difference's cross and dot product with e are the parts of one product
-both-within : {a : ℕ} (u v e : Vector) → UnitLong e → Within a u v
+both-within : {a : ℕ} (u v e : Vector) → UnitLong e → OffBy a u v
     → Most (a * 2 ^ 30) ((u .x -ℤ v .x) *ℤ e .y -ℤ (u .y -ℤ v .y) *ℤ e .x) ((u .y -ℤ v .y) *ℤ e .y +ℤ (u .x -ℤ v .x) *ℤ e .x)
 both-within u v e h k = most-product (u .x -ℤ v .x) (u .y -ℤ v .y) (e .y) (e .x) (within-most k) (most-turned (unit-most e h))
 
-pub cross-within : {a : ℕ} (u v e : Vector) → UnitLong e → Within a u v → natAbs (crossOf u e -ℤ crossOf v e) ≤ a * 2 ^ 30
+pub cross-within : {a : ℕ} (u v e : Vector) → UnitLong e → OffBy a u v → natAbs (crossOf u e -ℤ crossOf v e) ≤ a * 2 ^ 30
 unfolding crossOf
 cross-within u v e h k = rw (cross-less (u .x) (u .y) (v .x) (v .y) (e .x) (e .y)) (most-first (both-within u v e h k))
 
-pub dot-within : {a : ℕ} (u v e : Vector) → UnitLong e → Within a u v → natAbs (dotOf u e -ℤ dotOf v e) ≤ a * 2 ^ 30
+pub dot-within : {a : ℕ} (u v e : Vector) → UnitLong e → OffBy a u v → natAbs (dotOf u e -ℤ dotOf v e) ≤ a * 2 ^ 30
 unfolding dotOf
 dot-within u v e h k = rw (dot-less (u .x) (u .y) (v .x) (v .y) (e .x) (e .y)) (most-second (both-within u v e h k))
 
@@ -329,13 +329,13 @@ long-back : {a l : ℕ} (x y z w : ℤ) → Most l x y → Most a (x -ℤ z) (y 
     → natAbs z * natAbs z + natAbs w * natAbs w ≤ natAbs x * natAbs x + natAbs y * natAbs y + a * a + 2 * (l * a)
 long-back x y z w h k = rw (← back-to x z, ← back-to y w) at (sum-most x y (negℤ (x -ℤ z)) (negℤ (y -ℤ w)) h (most-neg k))
 
-short-within : (a l : ℕ) (u v : Vector) → Within a u v → squareOf u < l * l → squareOf v < (l + a) * (l + a)
+short-within : (a l : ℕ) (u v : Vector) → OffBy a u v → squareOf u < l * l → squareOf v < (l + a) * (l + a)
 unfolding squareOf
 short-within a l u v h k =
     omega (arith, k, long-back {a = a} {l = l} (u .x) (u .y) (v .x) (v .y) (record { most = le-of-lt k }) (within-most h), square-sum l a)
 
 -- what lies near a long vector is long
-pub long-within : {a : ℕ} (l : ℕ) (u v : Vector) → Within a u v → (l + a) * (l + a) ≤ squareOf v → l * l ≤ squareOf u
+pub long-within : {a : ℕ} (l : ℕ) (u v : Vector) → OffBy a u v → (l + a) * (l + a) ≤ squareOf v → l * l ≤ squareOf u
 long-within {a} l u v h k = go (decLe (l * l) (squareOf u))
   where
     go : Dec (l * l ≤ squareOf u) → l * l ≤ squareOf u

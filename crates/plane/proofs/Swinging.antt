@@ -13,7 +13,8 @@ use Rattle.whole.proofs.Signed.{up, down, ext, add-balance, up-mul, down-mul, u
 use Rattle.whole.proofs.Sizes.{size-add, size-mul, size-fits, quot-fits}
 use Rattle.number.specs.MulDiv.{mulDivOf}
 use Rattle.plane.specs.Vectors.{Short}
-use Rattle.plane.specs.Directions.{UnitLong, rotatedOf, swingOf, headingOf, Swings}
+use Rattle.plane.specs.Directions.{UnitLong, rotatedOf}
+use Rattle.plane.specs.Swings.{swingOf, headingOf, Swings}
 use Rattle.plane.proofs.Products.{bits, back, small-fits, sum-fits, difference-fits}
 use Rattle.plane.proofs.Turns.{first-is, second-is}
 use Rattle.plane.proofs.Norms.{most-product, most-first, most-second}

@@ -11,7 +11,8 @@ ghost use mathlib.Core.Path.{_≡_};
 ghost use Prim.Native.Nat.{_+_, _*_, _^_, _<_, _≤_};
 ghost use lib.Dec.{leb};
 ghost use Rattle.plane.specs.Vectors.{Short, squareOf};
-ghost use Rattle.plane.specs.Directions.{partOf, directionOf, stepOf, Settles, Measures};
+ghost use Rattle.plane.specs.Directions.{partOf, directionOf, stepOf};
+ghost use Rattle.plane.specs.Swings.{Settles, Measures};
 
 // Whether the number a * 2^64 + b is at most p * 2^64 + q.
 fn at_most(a: u64, b: u64, p: u64, q: u64) -> bool

@@ -9,7 +9,8 @@ ghost use lib.IntN.{pos, natAbs, _+ℤ_};
 ghost use lib.Signed.{quotZ, shrZ};
 ghost use Rattle.whole.specs.Sizes.{Size};
 ghost use Rattle.number.specs.MulDiv.{mulDivOf};
-ghost use Rattle.plane.specs.Directions.{UnitLong, rotatedOf, swingOf, headingOf, Swings};
+ghost use Rattle.plane.specs.Directions.{UnitLong, rotatedOf};
+ghost use Rattle.plane.specs.Swings.{swingOf, headingOf, Swings};
 
 // A direction turned by a step, its components not yet divided by 2^30.
 pub struct Swing {

@@ -7,10 +7,10 @@ use Prim.Native.Nat.{ℕ, zero, suc, _+_, _-_, _<_}
 use native.Mathlib.Omega.{arith}
 use lib.ListN.{length, getD, drop, length-drop}
 use lib.Seq.{getD-drop}
-use Rattle.variable_stroke.specs.Contacts.{kindOf}
-use Rattle.variable_stroke.specs.Paths.{none}
-use Rattle.variable_stroke.specs.Local.{settles, thinFrom, thinRun, reachOf}
-use Rattle.variable_stroke.specs.declared.Vertex.{Vertex}
+use Rattle.contacts.specs.Contacts.{kindOf}
+use Rattle.paths.specs.Paths.{none}
+use Rattle.locality.specs.Local.{settles, thinFrom, thinRun, reachOf}
+use Rattle.contacts.specs.declared.Vertex.{Vertex}
 use Rattle.reaching.specs.Steps.{settledTo}
 use Rattle.reaching.specs.Theorems.{ReachIsFirst}
 

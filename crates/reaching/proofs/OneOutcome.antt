@@ -1,7 +1,7 @@
 -- Each case of the answer has a number of its own, so the promise allows one answer. Assumes nothing.
 use mathlib.Core.Path.{_≡_, refl, sym, ap, _∙_}
-use Rattle.outline.specs.Replies.{Reply}
-use Rattle.outline.proofs.OneOutcome.{from, from-refusal}
+use Rattle.replies.specs.Replies.{Reply}
+use Rattle.replies.proofs.OneOutcome.{from, from-refusal}
 use Rattle.reaching.specs.Replies.{replyOfReached}
 use Rattle.reaching.specs.Theorems.{OneReach}
 use Rattle.reaching.specs.declared.Reached.{Reached}

@@ -9,15 +9,15 @@ use borrow.Author.Tests.{lt-ltb, le-ltb}
 use lib.Dec.{ltb}
 use lib.ListN.{length, getD, drop}
 use lib.Seq.{drop-cons}
-use Rattle.variable_stroke.specs.Contacts.{kindOf}
-use Rattle.variable_stroke.specs.Limits.{firstOutside}
-use Rattle.variable_stroke.specs.Bounds.{Inside}
-use Rattle.variable_stroke.specs.Paths.{none}
-use Rattle.variable_stroke.specs.Local.{settles, thinFrom, thinRun, reachOf}
-use Rattle.variable_stroke.specs.declared.Vertex.{Vertex}
-use Rattle.variable_stroke.specs.declared.Kind.{Kind}
-use Rattle.variable_stroke.proofs.Allowed.{inside-of}
-use Rattle.variable_stroke.proofs.PathWalk.{allowed-at}
+use Rattle.contacts.specs.Contacts.{kindOf}
+use Rattle.contacts.specs.Limits.{firstOutside}
+use Rattle.contacts.specs.Bounds.{Inside}
+use Rattle.paths.specs.Paths.{none}
+use Rattle.locality.specs.Local.{settles, thinFrom, thinRun, reachOf}
+use Rattle.contacts.specs.declared.Vertex.{Vertex}
+use Rattle.contacts.specs.declared.Kind.{Kind}
+use Rattle.contacts.proofs.Allowed.{inside-of}
+use Rattle.paths.proofs.PathWalk.{allowed-at}
 use Rattle.reaching.specs.Steps.{reachedOf}
 
 -- each vertex of a path within the limits is within them

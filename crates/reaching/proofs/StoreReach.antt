@@ -6,22 +6,22 @@ use native.Mathlib.Omega.{arith}
 use borrow.Author.Tests.{le-leb, lt-leb}
 use lib.IntN.{ℤ}
 use lib.ListN.{length, take, length-take}
-use Rattle.variable_stroke.specs.Limits.{firstOutside}
-use Rattle.variable_stroke.specs.Paths.{pathOf}
-use Rattle.variable_stroke.proofs.PathWalk.{path-count}
+use Rattle.contacts.specs.Limits.{firstOutside}
+use Rattle.paths.specs.Paths.{pathOf}
+use Rattle.paths.proofs.PathWalk.{path-count}
 use Rattle.outline.specs.Stores.{pathIn}
-use Rattle.outline.specs.Replies.{Reply, firstRow, indexRow}
-use Rattle.outline.specs.Answers.{refusalOf}
-use Rattle.outline.specs.StoreChecks.{StoreSays}
-use Rattle.outline.specs.declared.Refusal.{Refusal}
-use Rattle.outline.specs.declared.Refusal.the-variants.{NoVertex}
-use Rattle.outline.specs.declared.check.Header.{Header}
-use Rattle.outline.specs.declared.check.Checked.{Checked}
-use Rattle.outline.specs.declared.check.Checked.the-variants as checked
-use Rattle.outline.proofs.Shown.{path-back}
-use Rattle.outline.proofs.StoreReads.{store-refuses, store-passes, header-count}
-use Rattle.outline.proofs.KnownStore.{known}
-use Rattle.outline.proofs.NewVertex.{known-few}
+use Rattle.replies.specs.Replies.{Reply, firstRow, indexRow}
+use Rattle.replies.specs.Refusals.{refusalOf}
+use Rattle.checking.specs.StoreChecks.{StoreSays}
+use Rattle.replies.specs.declared.Refusal.{Refusal}
+use Rattle.replies.specs.declared.Refusal.the-variants.{NoVertex}
+use Rattle.checking.specs.declared.Header.{Header}
+use Rattle.checking.specs.declared.Checked.{Checked}
+use Rattle.checking.specs.declared.Checked.the-variants as checked
+use Rattle.checking.proofs.Shown.{path-back}
+use Rattle.checking.proofs.StoreReads.{store-refuses, store-passes, header-count}
+use Rattle.editing.proofs.KnownStore.{known}
+use Rattle.editing.proofs.NewVertex.{known-few}
 use Rattle.reaching.specs.Steps.{reachedOf}
 use Rattle.reaching.specs.Replies.{reachReply, replyOfReached, Reaches}
 use Rattle.reaching.specs.declared.Reached.{Reached}

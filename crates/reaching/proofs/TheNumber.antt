@@ -7,19 +7,18 @@ use native.Mathlib.Omega.{arith}
 use borrow.Author.Tests.{ltb-true, ltb-false}
 use lib.Dec.{ltb}
 use lib.ListN.{length}
-use Rattle.variable_stroke.specs.Local.{reachOf}
-use Rattle.variable_stroke.specs.declared.Vertex.{Vertex}
+use Rattle.locality.specs.Local.{reachOf}
+use Rattle.contacts.specs.declared.Vertex.{Vertex}
 use Rattle.outline.specs.Stores.{pathIn}
-use Rattle.outline.specs.Replies.{Reply, Row, firstRow, editionRow, kindRow, gradeRow, countRow, lengthRow, outsideRow, soundRow, indexRow, storeRows}
-use Rattle.outline.proofs.ReadBack.{first-skip}
-use Rattle.outline.proofs.Changed.{first-none}
-use Rattle.outline.proofs.ThroughCalls.{bytes-kept}
+use Rattle.replies.specs.Replies.{Reply, Row, firstRow, gradeRow, countRow, outsideRow, indexRow}
+use Rattle.checking.specs.StoreRows.{editionRow, kindRow, lengthRow, soundRow, storeRows}
+use Rattle.replies.proofs.Rows.{first-skip, first-none}
 use Rattle.reaching.specs.Steps.{reachedOf}
 use Rattle.reaching.specs.Replies.{reachReply}
-use Rattle.reaching.specs.Theorems.{NumberIsFirst, NumberKeeps}
+use Rattle.reaching.specs.Theorems.{NumberIsFirst}
 use Rattle.reaching.proofs.FirstSettled.{reach-is-first}
 
-number-is : (s : List ℕ) (k j : ℕ) → reachReply s k ≡ (0, j) → j ≡ reachedOf (pathIn s) k
+pub number-is : (s : List ℕ) (k j : ℕ) → reachReply s k ≡ (0, j) → j ≡ reachedOf (pathIn s) k
 unfolding reachReply storeRows editionRow kindRow gradeRow countRow lengthRow outsideRow soundRow indexRow firstRow
 number-is s k j e =
     let rows : List Row = storeRows s ++ (indexRow (length (pathIn s)) k ∷ []) in
@@ -29,7 +28,7 @@ number-is s k j e =
     ap (λ (r : Reply). r .1) (sym e ∙ f)
 
 -- which is the lesser of the reach and the number of vertices
-lesser : (vs : List Vertex) (k : ℕ) → (reachedOf vs k ≤ length vs) × (reachedOf vs k ≤ reachOf vs k) × (reachedOf vs k < length vs → reachedOf vs k ≡ reachOf vs k)
+pub lesser : (vs : List Vertex) (k : ℕ) → (reachedOf vs k ≤ length vs) × (reachedOf vs k ≤ reachOf vs k) × (reachedOf vs k < length vs → reachedOf vs k ≡ reachOf vs k)
 unfolding reachedOf
 lesser vs k = go (ltb (reachOf vs k) (length vs)) refl
   where
@@ -48,14 +47,4 @@ number-is-first s k j e =
       omega arith,
       λ i l m. r .1 i l (omega arith),
       λ l. let h : j ≡ reachOf (pathIn s) k = f ∙ g .2 (omega arith) in (omega (arith, r .0), rw h (r .2 (omega arith))),
-    )
-
-pub number-keeps : NumberKeeps
-number-keeps s k j v e h =
-    let kept = bytes-kept s k v h in (
-      kept .0,
-      λ l i m n.
-          let f = number-is s k j e in
-          let r : j ≡ reachOf (pathIn s) k = f ∙ lesser (pathIn s) k .2 (omega arith) in
-          kept .1 (omega arith) i (omega arith) n,
     )

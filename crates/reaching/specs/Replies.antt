@@ -4,8 +4,9 @@ use mathlib.Core.List.{List, [], _∷_, _++_}
 use Prim.Native.Nat.{ℕ}
 use lib.ListN.{length}
 use Rattle.outline.specs.Stores.{pathIn}
-use Rattle.outline.specs.Replies.{Reply, firstRow, indexRow, storeRows}
-use Rattle.outline.specs.Answers.{refusalOf}
+use Rattle.replies.specs.Replies.{Reply, firstRow, indexRow}
+use Rattle.checking.specs.StoreRows.{storeRows}
+use Rattle.replies.specs.Refusals.{refusalOf}
 use Rattle.reaching.specs.Steps.{reachedOf}
 use Rattle.reaching.specs.declared.Reached.{Reached}
 use Rattle.reaching.specs.declared.Reached.the-variants.{To, Refused}

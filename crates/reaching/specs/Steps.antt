@@ -1,13 +1,13 @@
--- Demand 3 (README.md; stated in variable_stroke/specs/Local.antt): the vertex that a change reaches to, as a number of its path.
+-- Demand 3 (README.md; stated in locality/specs/Local.antt): the vertex that a change reaches to, as a number of its path.
 use mathlib.Core.Bool.{Bool, true, false}
 use mathlib.Core.List.{List}
 use Prim.Native.Nat.{ℕ, _-_}
 use lib.Dec.{ltb}
 use lib.ListN.{length, getD}
-use Rattle.variable_stroke.specs.Contacts.{kindOf}
-use Rattle.variable_stroke.specs.Paths.{none}
-use Rattle.variable_stroke.specs.Local.{settles, reachOf}
-use Rattle.variable_stroke.specs.declared.Vertex.{Vertex}
+use Rattle.contacts.specs.Contacts.{kindOf}
+use Rattle.paths.specs.Paths.{none}
+use Rattle.locality.specs.Local.{settles, reachOf}
+use Rattle.contacts.specs.declared.Vertex.{Vertex}
 
 -- Document 01, "Three kinds of step": whether vertex i is reached by a step that is drawn or broken.
 unfoldable pub settledTo : List Vertex → ℕ → Bool

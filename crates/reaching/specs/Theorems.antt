@@ -1,13 +1,12 @@
--- Theorems over the definitions: the call has one outcome, and what its number says of the path and of the bytes that replace keeps.
+-- Theorems over the definitions: the call has one outcome, and what its number says of the path.
 use mathlib.Core.Path.{_≡_}
 use mathlib.Core.Bool.{true, false}
 use mathlib.Core.List.{List}
 use Prim.Native.Nat.{ℕ, _+_, _≤_, _<_}
 use lib.ListN.{length}
-use Rattle.variable_stroke.specs.Local.{reachOf}
-use Rattle.variable_stroke.specs.declared.Vertex.{Vertex}
-use Rattle.outline.specs.Stores.{pathIn, bodyBytesIn}
-use Rattle.outline.specs.Replies.{replaceReply, replaceOut}
+use Rattle.locality.specs.Local.{reachOf}
+use Rattle.contacts.specs.declared.Vertex.{Vertex}
+use Rattle.outline.specs.Stores.{pathIn}
 use Rattle.reaching.specs.Steps.{settledTo}
 use Rattle.reaching.specs.Replies.{reachReply, Reaches}
 use Rattle.reaching.specs.declared.Reached.{Reached}
@@ -30,10 +29,3 @@ NumberIsFirst = (s : List ℕ) (k j : ℕ) → reachReply s k ≡ (0, j)
     → (j ≤ length (pathIn s))
     × ((i : ℕ) → k + 2 ≤ i → i < j → settledTo (pathIn s) i ≡ false)
     × (j < length (pathIn s) → (k + 2 ≤ j) × (settledTo (pathIn s) j ≡ true))
-
--- Demand 3 by the number j that the call gives: where a vertex k is then replaced, the bytes of each body before k stay as they were; and so do those
--- of each body after j, the closing one too, unless j is the last vertex or there is none.
-abbrev pub NumberKeeps : Type 0
-NumberKeeps = (s : List ℕ) (k j : ℕ) (v : Vertex) → reachReply s k ≡ (0, j) → replaceReply s k v .0 ≡ 0
-    → ((i : ℕ) → i < k → bodyBytesIn (replaceOut s k v) i ≡ bodyBytesIn s i)
-    × (j + 1 < length (pathIn s) → (i : ℕ) → j < i → i ≤ length (pathIn s) → bodyBytesIn (replaceOut s k v) i ≡ bodyBytesIn s i)

@@ -1,5 +1,5 @@
 // How far another vertex in a kept outline can reach.
-use outline::Refusal;
+use replies::Refusal;
 
 pub mod reach;
 pub mod walk;

@@ -1,16 +1,16 @@
 // reach: how far another vertex in the path of a kept outline can reach.
 use crate::Reached;
 use crate::walk::reached;
-use outline::Refusal;
-use outline::check::Checked;
-use outline::check::check;
+use checking::Checked;
+use checking::check;
+use replies::Refusal;
 ghost use mathlib.Core.Path.{_≡_};
 ghost use mathlib.Core.List.{[], _∷_};
 ghost use Prim.Native.Nat.{_*_, _≤_};
 ghost use lib.ListN.{length, take};
-ghost use Rattle.variable_stroke.specs.Limits.{firstOutside};
-ghost use Rattle.variable_stroke.specs.Paths.{pathOf};
-ghost use Rattle.outline.specs.Replies.{firstRow, indexRow};
+ghost use Rattle.contacts.specs.Limits.{firstOutside};
+ghost use Rattle.paths.specs.Paths.{pathOf};
+ghost use Rattle.replies.specs.Replies.{firstRow, indexRow};
 ghost use Rattle.reaching.specs.Steps.{reachedOf};
 ghost use Rattle.reaching.specs.Replies.{replyOfReached, Reaches};
 

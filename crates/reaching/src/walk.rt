@@ -1,14 +1,14 @@
 // The steps after a vertex, up to the first that is drawn or broken.
-use variable_stroke::Kind;
-use variable_stroke::math::kind;
-use variable_stroke::paths::vertex;
+use contacts::Kind;
+use contacts::math::kind;
+use paths::paths::vertex;
 ghost use mathlib.Core.Path.{_≡_};
 ghost use Prim.Native.Nat.{_+_, _<_};
 ghost use lib.ListN.{length, getD};
-ghost use Rattle.variable_stroke.specs.Limits.{firstOutside};
-ghost use Rattle.variable_stroke.specs.Contacts.{kindOf};
-ghost use Rattle.variable_stroke.specs.Paths.{pathOf, none};
-ghost use Rattle.variable_stroke.specs.Local.{settles, reachOf};
+ghost use Rattle.contacts.specs.Limits.{firstOutside};
+ghost use Rattle.contacts.specs.Contacts.{kindOf};
+ghost use Rattle.paths.specs.Paths.{pathOf, none};
+ghost use Rattle.locality.specs.Local.{settles, reachOf};
 ghost use Rattle.reaching.specs.Steps.{reachedOf};
 
 // Whether a step of this kind settles what is seen after it: a drawn or a broken one does.

@@ -10,9 +10,9 @@ use cases::canary;
 use cases::head::Damage;
 use cases::head::Lent;
 use cases::head::Place;
+use keeping::Kept;
 use lines::page;
-use outline::Kept;
-use outline::Refusal;
+use replies::Refusal;
 
 // The bytes that a kept path asked for, 0 if it was refused anyhow.
 fn asked(kept: Kept) -> usize {

@@ -1,10 +1,11 @@
 // What a call answers, as the numbers of document 01: reply, number beside it, grade.
 use cases::answer::Reply;
-use outline::Drawn;
-use outline::Kept;
-use outline::Read;
-use outline::Refusal;
-use outline::Replaced;
+use drawing::Drawn;
+use editing::Replaced;
+use keeping::Kept;
+use reading::Read;
+use replies::Refusal;
+use replies::refusals::code;
 
 // Reply 0 with its number.
 fn given(number: usize, grade: u32) -> Reply {
@@ -15,27 +16,13 @@ fn given(number: usize, grade: u32) -> Reply {
     }
 }
 
-// A refusal's reply with its number.
-fn refused(reply: u64, number: usize) -> Reply {
-    Reply {
-        reply,
-        number: number as u64,
-        grade: 0,
-    }
-}
-
 // The reply of each refusal.
 fn of_refusal(refusal: Refusal) -> Reply {
-    match refusal {
-        Refusal::NotTriples(count) => refused(1, count),
-        Refusal::TooMany(count) => refused(2, count),
-        Refusal::Grade(grade) => refused(3, grade as usize),
-        Refusal::Outside(index) => refused(4, index),
-        Refusal::NoRoom(needed) => refused(5, needed),
-        Refusal::NotOutline => refused(6, 0),
-        Refusal::Kind(kind) => refused(7, kind as usize),
-        Refusal::NotSound(at) => refused(8, at),
-        Refusal::NoVertex(index) => refused(9, index),
+    let told = code(refusal);
+    Reply {
+        reply: told.reply as u64,
+        number: told.number,
+        grade: 0,
     }
 }
 

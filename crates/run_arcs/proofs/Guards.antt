@@ -13,16 +13,16 @@ use Rattle.plane.specs.Vectors.{Near, fromTo, squareOf}
 use Rattle.plane.proofs.Products.{bits, back}
 use Rattle.plane.specs.declared.Point.{Point}
 use Rattle.plane.specs.declared.Vector.{Vector}
-use Rattle.arc.specs.Edges.{edgeNumbers}
-use Rattle.arc.specs.Bounds.{Most, Centre, About}
-use Rattle.arc.proofs.Most.{edges-four}
-use Rattle.arc.specs.declared.Edge.{Edge}
-use Rattle.variable_stroke.specs.Contacts.{centreOf}
-use Rattle.variable_stroke.specs.Limits.{allowedOf}
-use Rattle.variable_stroke.specs.Bounds.{Inside}
-use Rattle.variable_stroke.proofs.Allowed.{inside-of}
-use Rattle.variable_stroke.proofs.Contacts.{centre-is}
-use Rattle.variable_stroke.specs.declared.Vertex.{Vertex}
+use Rattle.turning.specs.Edges.{edgeNumbers}
+use Rattle.turning.specs.Bounds.{Most, Centre, About}
+use Rattle.turning.proofs.Most.{edges-four}
+use Rattle.turning.specs.declared.Edge.{Edge}
+use Rattle.contacts.specs.Contacts.{centreOf}
+use Rattle.contacts.specs.Limits.{allowedOf}
+use Rattle.contacts.specs.Bounds.{Inside}
+use Rattle.contacts.proofs.Allowed.{inside-of}
+use Rattle.contacts.proofs.Contacts.{centre-is}
+use Rattle.contacts.specs.declared.Vertex.{Vertex}
 
 -- ---- tests
 

@@ -1,18 +1,18 @@
 // The answer to each kind of case, or that its numbers lie outside what the function takes.
 use crate::guard::about;
 use crate::guard::whole;
-use arc::Pen;
-use arc::Sweep;
+use contacts::Kind;
+use contacts::Section;
+use contacts::Vertex;
+use contacts::limits::allowed;
+use contacts::math::centre;
+use contacts::math::kind;
+use contacts::sections::covers_circle;
+use contacts::sections::section;
+use folds::Pen;
 use plane::Point;
 use plane::Vector;
-use variable_stroke::Kind;
-use variable_stroke::Section;
-use variable_stroke::Vertex;
-use variable_stroke::math::centre;
-use variable_stroke::math::kind;
-use variable_stroke::paths::allowed;
-use variable_stroke::sections::covers_circle;
-use variable_stroke::sections::section;
+use turning::Sweep;
 ghost use Rattle.plane.specs.Directions.{UnitLong};
 
 // What a case comes to: how many numbers its edges take, that a step is broken, the kind of a step and its section, whether a circle is covered,
@@ -103,5 +103,5 @@ pub fn join(out: &mut [i32], t: Vector, a: Vertex, b: Vertex, c: Vertex, d: Vert
         step: t,
         folds: false,
     };
-    Answer::Edges(variable_stroke::builder_join::join(out, 0, pen, prev, next))
+    Answer::Edges(joins::builder_join::join(out, 0, pen, prev, next))
 }

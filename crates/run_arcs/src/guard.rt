@@ -1,18 +1,18 @@
 // Tests of a case's numbers: what they tell is what the functions ask for.
+use contacts::Kind;
+use contacts::Vertex;
+use contacts::limits::allowed;
+use contacts::math::kind;
 use number::sign::size;
 use plane::Point;
 use plane::vectors::from_to;
 use plane::vectors::square;
-use variable_stroke::Kind;
-use variable_stroke::Vertex;
-use variable_stroke::math::kind;
-use variable_stroke::paths::allowed;
 ghost use mathlib.Core.Bool.{true, false};
 ghost use mathlib.Core.Path.{_≡_};
 ghost use Rattle.plane.specs.Vectors.{Near};
-ghost use Rattle.arc.specs.Bounds.{About};
-ghost use Rattle.variable_stroke.specs.Bounds.{Inside};
-ghost use Rattle.variable_stroke.specs.Contacts.{brokenOf};
+ghost use Rattle.turning.specs.Bounds.{About};
+ghost use Rattle.contacts.specs.Bounds.{Inside};
+ghost use Rattle.contacts.specs.Contacts.{brokenOf};
 
 // Whether a point is as near to the origin as an edge can end.
 fn near(p: Point) -> bool

@@ -1,8 +1,8 @@
 // The numbers of a case as points, vertices, a grade and a choice.
-use arc::Sweep;
+use contacts::Vertex;
 use number::sign::signed;
 use plane::Point;
-use variable_stroke::Vertex;
+use turning::Sweep;
 ghost use Prim.Native.Nat.{_+_, _<_, _≤_};
 
 // The number at a place, or 2^30, which is outside every limit, if it is farther from 0.

@@ -1,11 +1,11 @@
 // An answer as text: edges, contacts, or one number.
 use crate::answer::Answer;
-use arc::Edge;
 use cases::entries::long;
+use contacts::Section;
+use contacts::Trend;
 use lines::page;
 use plane::Point;
-use variable_stroke::Section;
-use variable_stroke::Trend;
+use turning::Edge;
 
 // A number after a space.
 fn after_space(page: &mut [u8; 4096], fill: usize, value: i64) -> usize {

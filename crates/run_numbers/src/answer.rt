@@ -156,5 +156,5 @@ pub fn shift(square: Number) -> Answer {
     if 0x800_0000_0000_0000 < sq {
         return Answer::Outside;
     }
-    Answer::One(variable_stroke::math::shift(sq) as i64)
+    Answer::One(contacts::math::shift(sq) as i64)
 }

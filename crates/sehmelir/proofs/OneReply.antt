@@ -1,7 +1,7 @@
 -- A reply is what document 01 says, number by number, so a promise allows one. Assumes nothing.
 use mathlib.Core.Path.{_≡_, sym, _∙_}
 use Prim.Native.Nat.{ℕ}
-use Rattle.outline.specs.Replies.{Reply as Answer}
+use Rattle.replies.specs.Replies.{Reply as Answer}
 use Rattle.sehmelir.specs.Boundary.{Replies, OneDrawReply, OneKeepReply, OneReadReply, OneReplaceReply, OneReachReply}
 use Rattle.sehmelir.specs.declared.Reply.{Reply}
 

@@ -3,15 +3,20 @@ use mathlib.Core.Path.{_≡_, ap, _∙_}
 use mathlib.Core.List.{List}
 use Prim.Native.Nat.{ℕ}
 use lib.IntN.{ℤ}
-use Rattle.variable_stroke.specs.declared.Vertex.{Vertex}
-use Rattle.outline.specs.Replies.{Reply as Answer}
-use Rattle.outline.specs.Answers.{replyOfReplaced, Replaces}
-use Rattle.outline.specs.declared.Replaced.{Replaced}
+use Rattle.contacts.specs.declared.Vertex.{Vertex}
+use Rattle.replies.specs.Replies.{Reply as Answer}
+use Rattle.replies.specs.Refusals.{Codes}
+use Rattle.replies.specs.declared.Code.{Code}
+use Rattle.editing.specs.Replacing.{replyOfReplaced, Replaces}
+use Rattle.editing.specs.declared.Replaced.{Replaced}
 use Rattle.sehmelir.specs.Boundary.{Replies, ReplaceReplies}
 use Rattle.sehmelir.specs.declared.Reply.{Reply}
 
 pub told : {p : Reply} {a n : ℕ} {t : Answer} → (a, n) ≡ t → (p .reply ≡ a) × (p .number ≡ n) × (p .grade ≡ 0) → Replies p t 0
 told e h = record { reply = h .0 ∙ ap (λ (x : Answer). x .0) e; number = h .1 ∙ ap (λ (x : Answer). x .1) e; grade = h .2 }
+
+pub told-code : {p : Reply} {c : Code} {t : Answer} → Codes c t → (p .reply ≡ c .reply) × (p .number ≡ c .number) × (p .grade ≡ 0) → Replies p t 0
+told-code e h = record { reply = h .0 ∙ e .reply; number = h .1 ∙ e .number; grade = h .2 }
 
 pub told-as : {p : Reply} {s t : Answer} {g : ℕ} → s ≡ t → Replies p s g → Replies p t g
 told-as e h = rw e at h

@@ -1,12 +1,15 @@
--- The calls as numbers: the promises of outline/specs/Answers.antt and reaching/specs/Replies.antt, through the definition that gives each answer its
--- number.
+-- The calls as numbers: the promise of each call, through the definition that gives its answers their numbers.
 use mathlib.Core.Path.{_≡_}
 use mathlib.Core.List.{List}
 use Prim.Native.Nat.{ℕ}
 use lib.IntN.{ℤ}
 use lib.ListN.{length}
-use Rattle.variable_stroke.specs.declared.Vertex.{Vertex}
-use Rattle.outline.specs.Replies.{Reply as Answer, drawReply, drawOut, keepReply, keepOut, readReply, readGrade, readOut, replaceReply, replaceOut}
+use Rattle.contacts.specs.declared.Vertex.{Vertex}
+use Rattle.replies.specs.Replies.{Reply as Answer}
+use Rattle.drawing.specs.Drawing.{drawReply, drawOut}
+use Rattle.keeping.specs.Keeping.{keepReply, keepOut}
+use Rattle.reading.specs.Reading.{readReply, readGrade, readOut}
+use Rattle.editing.specs.Replacing.{replaceReply, replaceOut}
 use Rattle.reaching.specs.Replies.{reachReply}
 use Rattle.sehmelir.specs.declared.Reply.{Reply}
 

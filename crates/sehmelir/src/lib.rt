@@ -1,14 +1,19 @@
 // The calls for C and Rust: numbers and slices only.
-use outline::Drawn;
-use outline::Kept;
-use outline::Read;
-use outline::Refusal;
-use outline::Replaced;
+use drawing::Drawn;
+use editing::Replaced;
+use keeping::Kept;
 use reaching::Reached;
+use reading::Read;
+use replies::Refusal;
+use replies::refusals::code;
 ghost use mathlib.Core.Path.{_≡_};
-ghost use Rattle.outline.specs.Answers.{refusalOf, replyOfDrawn, replyOfKept, replyOfRead, gradeOfRead, replyOfReplaced};
-ghost use Rattle.reaching.specs.Replies.{replyOfReached};
+ghost use Rattle.replies.specs.Refusals.{refusalOf};
+ghost use Rattle.drawing.specs.Drawing.{replyOfDrawn};
+ghost use Rattle.keeping.specs.Keeping.{replyOfKept};
+ghost use Rattle.reading.specs.Reading.{replyOfRead, gradeOfRead};
+ghost use Rattle.editing.specs.Replacing.{replyOfReplaced};
 ghost use Rattle.sehmelir.specs.Boundary.{Replies, DrawReplies, KeepReplies, ReadReplies, ReplaceReplies, ReachReplies};
+ghost use Rattle.reaching.specs.Replies.{replyOfReached};
 
 // Document 01's reply, the grade beside it (of a read outline, else 0), and the number with it.
 #[repr(C)]
@@ -22,17 +27,8 @@ pub struct Reply {
 fn refusal(r: Refusal) -> Reply
     ensures { λ p. ⌜ Replies p (refusalOf r) 0 ⌝ }
 {
-    match r {
-        Refusal::NotTriples(n) => plain(1, n as u64),
-        Refusal::TooMany(n) => plain(2, n as u64),
-        Refusal::Grade(g) => plain(3, g as u64),
-        Refusal::Outside(i) => plain(4, i as u64),
-        Refusal::NoRoom(n) => plain(5, n as u64),
-        Refusal::NotOutline => plain(6, 0),
-        Refusal::Kind(k) => plain(7, k as u64),
-        Refusal::NotSound(i) => plain(8, i as u64),
-        Refusal::NoVertex(i) => plain(9, i as u64),
-    }
+    let c = code(r);
+    plain(c.reply, c.number)
 }
 
 // A reply with its number, without a grade.

@@ -8,25 +8,26 @@ use lib.Signed.{leZ, mag}
 use Rattle.plane.proofs.Products.{bits, back}
 use Rattle.plane.specs.declared.Point.{Point}
 use Rattle.plane.specs.declared.Vector.{Vector}
-use Rattle.arc.specs.Edges.{edgeOf}
-use Rattle.arc.specs.declared.Pen.{Pen}
-use Rattle.arc.proofs.Laid.{lays-none, lays-as, lays-then, lays-to}
-use Rattle.arc.specs.Arcs.{circleOf}
-use Rattle.variable_stroke.specs.Contacts.{centreOf, brokenOf, kindOf, sectionOf}
-use Rattle.variable_stroke.specs.Covering.{coveredOf}
-use Rattle.variable_stroke.specs.Joins.{startCap, endCap, joinOf}
+use Rattle.turning.specs.Edges.{edgeOf}
+use Rattle.folds.specs.declared.Pen.{Pen}
+use Rattle.folds.proofs.Laid.{lays-none, lays-as, lays-then, lays-to}
+use Rattle.turning.specs.Arcs.{circleOf}
+use Rattle.contacts.specs.Contacts.{centreOf, brokenOf, kindOf, sectionOf}
+use Rattle.contacts.specs.Covering.{coveredOf}
+use Rattle.joins.specs.Joins.{startCap, endCap, joinOf}
 use Rattle.variable_stroke.specs.Chains.{freshOf, bothButt, loneOf, finishLast, finishOf, meetLast, drawnOf, breakEnd, breakStart, leaveEdges, leaveChain, leaveClosing, markedOf, emittedOf, nextChain, nextLast, nextClosing, nextOf, startOf}
-use Rattle.variable_stroke.specs.Bounds.{Inside, Around, AroundLast, AroundChain, AroundWalk}
-use Rattle.variable_stroke.specs.Steps.{Finishes, Starts, Draws, Leaves, Strides}
-use Rattle.variable_stroke.proofs.Steps.{drawn-whole}
-use Rattle.variable_stroke.specs.declared.Vertex.{Vertex}
-use Rattle.variable_stroke.specs.declared.Section.{Section}
-use Rattle.variable_stroke.specs.declared.Kind.{Kind}
-use Rattle.variable_stroke.specs.declared.Kind.the-variants.{Broken, Drawn, Thin}
-use Rattle.variable_stroke.specs.declared.Cap.{Cap}
-use Rattle.variable_stroke.specs.declared.Cap.the-variants.{Butt, Round}
-use Rattle.variable_stroke.specs.declared.Last.{Last}
-use Rattle.variable_stroke.specs.declared.Last.the-variants.{Nothing, Held}
+use Rattle.contacts.specs.Bounds.{Inside, Around, AroundLast}
+use Rattle.variable_stroke.specs.Bounds.{AroundChain, AroundWalk}
+use Rattle.variable_stroke.specs.Steps.{Finishes, Starts, Extends, Leaves, Strides}
+use Rattle.contacts.proofs.Steps.{drawn-whole}
+use Rattle.contacts.specs.declared.Vertex.{Vertex}
+use Rattle.contacts.specs.declared.Section.{Section}
+use Rattle.contacts.specs.declared.Kind.{Kind}
+use Rattle.contacts.specs.declared.Kind.the-variants.{Broken, Drawn, Thin}
+use Rattle.joins.specs.declared.Cap.{Cap}
+use Rattle.joins.specs.declared.Cap.the-variants.{Butt, Round}
+use Rattle.contacts.specs.declared.Last.{Last}
+use Rattle.contacts.specs.declared.Last.the-variants.{Nothing, Held}
 use Rattle.variable_stroke.specs.declared.Chain.{Chain}
 use Rattle.variable_stroke.specs.declared.Walk.{Walk}
 use Rattle.variable_stroke.specs.declared.builder.Stepped.{Stepped}
@@ -148,7 +149,7 @@ unfolding emittedOf
 emitted-thin t w b e = rw (e, emittedOf)
 
 pub walk-drawn : {l₀ l₁ l₂ : List ℤ} {at : ℕ} (pen : Pen) (w : Walk) (b : Vertex) {s : Section} {r : Left} {g : Stepped} → kindOf (w .at) b ≡ Drawn
-    → Leaves l₀ at pen w b l₁ r → s ≡ sectionOf (w .at) b → Draws l₁ (r .at) pen (r .chain) s l₂ g
+    → Leaves l₀ at pen w b l₁ r → s ≡ sectionOf (w .at) b → Extends l₁ (r .at) pen (r .chain) s l₂ g
     → Strides l₀ at pen w b l₂ (record { walk = record { at = b; chain = g .chain; previous = Held s; closing = r .closing }; at = g .at })
 unfolding nextOf nextChain nextLast nextClosing
 walk-drawn pen w b {s} {r} {g} e l f d = record {

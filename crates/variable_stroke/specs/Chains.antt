@@ -3,20 +3,20 @@ use mathlib.Core.Bool.{Bool, true, false, _||_}
 use mathlib.Core.List.{List, [], _++_}
 use lib.Signed.{leZ}
 use Rattle.plane.specs.declared.Vector.{Vector}
-use Rattle.arc.specs.Edges.{edgeOf}
-use Rattle.arc.specs.Arcs.{circleOf}
-use Rattle.arc.specs.declared.Edge.{Edge}
-use Rattle.variable_stroke.specs.Contacts.{centreOf, kindOf, sectionOf}
-use Rattle.variable_stroke.specs.Covering.{coveredOf}
-use Rattle.variable_stroke.specs.Joins.{startCap, endCap, joinOf}
-use Rattle.variable_stroke.specs.declared.Vertex.{Vertex}
-use Rattle.variable_stroke.specs.declared.Section.{Section}
-use Rattle.variable_stroke.specs.declared.Kind.{Kind}
-use Rattle.variable_stroke.specs.declared.Kind.the-variants.{Broken, Drawn, Thin}
-use Rattle.variable_stroke.specs.declared.Cap.{Cap}
-use Rattle.variable_stroke.specs.declared.Cap.the-variants.{Butt, Round}
-use Rattle.variable_stroke.specs.declared.Last.{Last}
-use Rattle.variable_stroke.specs.declared.Last.the-variants.{Nothing, Held}
+use Rattle.turning.specs.Edges.{edgeOf}
+use Rattle.turning.specs.Arcs.{circleOf}
+use Rattle.turning.specs.declared.Edge.{Edge}
+use Rattle.contacts.specs.Contacts.{centreOf, kindOf, sectionOf}
+use Rattle.contacts.specs.Covering.{coveredOf}
+use Rattle.joins.specs.Joins.{startCap, endCap, joinOf}
+use Rattle.contacts.specs.declared.Vertex.{Vertex}
+use Rattle.contacts.specs.declared.Section.{Section}
+use Rattle.contacts.specs.declared.Kind.{Kind}
+use Rattle.contacts.specs.declared.Kind.the-variants.{Broken, Drawn, Thin}
+use Rattle.joins.specs.declared.Cap.{Cap}
+use Rattle.joins.specs.declared.Cap.the-variants.{Butt, Round}
+use Rattle.contacts.specs.declared.Last.{Last}
+use Rattle.contacts.specs.declared.Last.the-variants.{Nothing, Held}
 use Rattle.variable_stroke.specs.declared.Chain.{Chain}
 use Rattle.variable_stroke.specs.declared.Walk.{Walk}
 
@@ -105,3 +105,7 @@ nextOf w b =
 -- The first chain starts Round at the first vertex.
 unfoldable pub startOf : Vertex → Walk
 startOf v = record { at = v; chain = freshOf v Round; previous = Nothing; closing = Round }
+
+-- At the end, finish with the closing cap.
+abbrev pub closeOf : Vector → Walk → List Edge
+closeOf t w = finishOf t (w .chain) (w .closing)

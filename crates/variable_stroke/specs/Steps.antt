@@ -5,14 +5,14 @@ use Prim.Native.Nat.{ℕ}
 use lib.IntN.{ℤ}
 use Rattle.runs.specs.Runs.{Runs, put}
 use Rattle.plane.specs.declared.Vector.{Vector}
-use Rattle.arc.specs.Edges.{edgeNumbers}
-use Rattle.arc.specs.Folds.{Lays}
-use Rattle.arc.specs.declared.Pen.{Pen}
+use Rattle.turning.specs.Edges.{edgeNumbers}
+use Rattle.folds.specs.Pens.{Lays}
+use Rattle.folds.specs.declared.Pen.{Pen}
 use Rattle.variable_stroke.specs.Chains.{freshOf, finishOf, drawnOf, leaveEdges, leaveChain, leaveClosing, markedOf, emittedOf, nextOf}
-use Rattle.variable_stroke.specs.declared.Vertex.{Vertex}
-use Rattle.variable_stroke.specs.declared.Section.{Section}
-use Rattle.variable_stroke.specs.declared.Cap.{Cap}
-use Rattle.variable_stroke.specs.declared.Last.the-variants.{Held}
+use Rattle.contacts.specs.declared.Vertex.{Vertex}
+use Rattle.contacts.specs.declared.Section.{Section}
+use Rattle.joins.specs.declared.Cap.{Cap}
+use Rattle.contacts.specs.declared.Last.the-variants.{Held}
 use Rattle.variable_stroke.specs.declared.Chain.{Chain}
 use Rattle.variable_stroke.specs.declared.Walk.{Walk}
 use Rattle.variable_stroke.specs.declared.builder.Stepped.{Stepped}
@@ -30,7 +30,7 @@ pub record Starts (a₀ : ℕ) (v : Vertex) (k : Cap) (r : Stepped) : Type 0 whe
   pub at : r .at ≡ a₀
 
 -- a chain after a drawn step
-pub record Draws (l₀ : List ℤ) (at : ℕ) (pen : Pen) (c : Chain) (s : Section) (l₁ : List ℤ) (r : Stepped) : Type 0 where
+pub record Extends (l₀ : List ℤ) (at : ℕ) (pen : Pen) (c : Chain) (s : Section) (l₁ : List ℤ) (r : Stepped) : Type 0 where
   pub chain : r .chain ≡ markedOf c (Held s)
   pub made : Lays (pen .step) (pen .folds) l₀ at (drawnOf (pen .step) c s) l₁ (r .at)
 

@@ -1,33 +1,34 @@
 // Chains, and the walk over a path; follows src/mesh/int/variable_stroke/builder.rs.
-use crate::Cap;
 use crate::Chain;
-use crate::Kind;
-use crate::Last;
-use crate::Section;
-use crate::Vertex;
 use crate::Walk;
-use crate::builder_join::end_cap;
-use crate::builder_join::join;
-use crate::builder_join::start_cap;
-use crate::math::centre;
-use crate::math::kind;
-use crate::sections::covered;
-use crate::sections::section;
-use arc::Pen;
 use arc::circle::circle;
-use arc::edges::edge;
+use contacts::Kind;
+use contacts::Last;
+use contacts::Section;
+use contacts::Vertex;
+use contacts::math::centre;
+use contacts::math::kind;
+use contacts::sections::covered;
+use contacts::sections::section;
+use folds::Pen;
+use joins::Cap;
+use joins::builder_join::end_cap;
+use joins::builder_join::join;
+use joins::builder_join::start_cap;
 use plane::Vector;
+use turning::edges::edge;
 ghost use mathlib.Core.Path.{_≡_};
 ghost use mathlib.Core.Bool.{true};
 ghost use Rattle.runs.specs.Runs.{Runs, Room, put};
 ghost use Rattle.plane.specs.Directions.{UnitLong};
-ghost use Rattle.arc.specs.Edges.{edgeNumbers};
-ghost use Rattle.arc.specs.Folds.{Lays};
-ghost use Rattle.variable_stroke.specs.Contacts.{kindOf};
+ghost use Rattle.turning.specs.Edges.{edgeNumbers};
+ghost use Rattle.folds.specs.Pens.{Lays};
+ghost use Rattle.contacts.specs.Contacts.{kindOf};
 ghost use Rattle.variable_stroke.specs.Chains.{freshOf, bothButt, loneOf, finishOf, meetLast, drawnOf, breakEnd, breakStart, leaveEdges, emittedOf, startOf};
-ghost use Rattle.variable_stroke.specs.Bounds.{Inside, Around, AroundChain, AroundWalk};
-ghost use Rattle.variable_stroke.specs.Steps.{Finishes, Starts, Draws, Leaves, Strides, Walks};
-ghost use Rattle.variable_stroke.specs.declared.Kind.the-variants.{Broken, Drawn, Thin};
+ghost use Rattle.contacts.specs.Bounds.{Inside, Around};
+ghost use Rattle.variable_stroke.specs.Bounds.{AroundChain, AroundWalk};
+ghost use Rattle.variable_stroke.specs.Steps.{Finishes, Starts, Extends, Leaves, Strides, Walks};
+ghost use Rattle.contacts.specs.declared.Kind.the-variants.{Broken, Drawn, Thin};
 
 // A chain, and where the output has come to.
 pub struct Stepped {
@@ -156,7 +157,7 @@ impl Chain {
     pub fn step(mut self, out: &mut [i32], at: usize, pen: Pen, s: Section) -> Stepped
         requires { ⌜ UnitLong (pen .step) × AroundChain self × Around s ⌝ }
         requires { ⌜ Room edgeNumbers at (drawnOf (pen .step) self s) ⌝ }
-        ensures { λ r. ⌜ Draws (now (out .entry)) at pen self s (now (out .exit)) r ⌝ }
+        ensures { λ r. ⌜ Extends (now (out .entry)) at pen self s (now (out .exit)) r ⌝ }
     {
         let n = self.drawn(out, at, pen, s);
         let start = self.start;

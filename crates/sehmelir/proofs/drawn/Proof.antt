@@ -1,7 +1,7 @@
 -- `sehmelir::drawn` meets its contract: each answer has its number. Assumes nothing.
 use mathlib.Core.Path.{sym, ap}
 use borrow.Author.Needs.{needs}
-use Rattle.outline.specs.Answers.{replyOfDrawn}
+use Rattle.drawing.specs.Drawing.{replyOfDrawn}
 use Rattle.sehmelir.proofs.Told.{told, told-as}
 use Rattle.sehmelir.proofs.drawn.Statement.{statement}
 use Rattle.sehmelir.proofs.drawn.Tie as tie

@@ -1,7 +1,7 @@
 -- `sehmelir::kept` meets its contract: each answer has its number. Assumes nothing.
 use mathlib.Core.Path.{sym, ap}
 use borrow.Author.Needs.{needs}
-use Rattle.outline.specs.Answers.{replyOfKept}
+use Rattle.keeping.specs.Keeping.{replyOfKept}
 use Rattle.sehmelir.proofs.Told.{told, told-as}
 use Rattle.sehmelir.proofs.kept.Statement.{statement}
 use Rattle.sehmelir.proofs.kept.Tie as tie

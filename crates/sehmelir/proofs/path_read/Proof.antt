@@ -1,7 +1,7 @@
 -- `sehmelir::path_read` meets its contract: each answer has its number, and a path read its grade. Assumes nothing.
 use mathlib.Core.Path.{refl, sym, ap}
 use borrow.Author.Needs.{needs}
-use Rattle.outline.specs.Answers.{replyOfRead, gradeOfRead}
+use Rattle.reading.specs.Reading.{replyOfRead, gradeOfRead}
 use Rattle.sehmelir.proofs.Told.{graded-as}
 use Rattle.sehmelir.proofs.path_read.Statement.{statement}
 use Rattle.sehmelir.proofs.path_read.Tie as tie

@@ -1,7 +1,7 @@
 -- `sehmelir::replaced` meets its contract: each answer has its number. Assumes nothing.
 use mathlib.Core.Path.{sym, ap}
 use borrow.Author.Needs.{needs}
-use Rattle.outline.specs.Answers.{replyOfReplaced}
+use Rattle.editing.specs.Replacing.{replyOfReplaced}
 use Rattle.sehmelir.proofs.Told.{told, told-as}
 use Rattle.sehmelir.proofs.replaced.Statement.{statement}
 use Rattle.sehmelir.proofs.replaced.Tie as tie

@@ -1,21 +1,19 @@
 -- `arc::arcs::arc` meets its contract: one case of the rule for each way to return. Assumes nothing.
-use mathlib.Core.Path.{_≡_, sym, _∙_}
+use mathlib.Core.Path.{_≡_, sym, ap, _∙_}
+use lib.IntN.{ℤ}
 use mathlib.Core.List.{_++_}
 use Prim.Native.Nat.{_<_}
 use borrow.Author.Needs.{needs}
 use Rattle.runs.proofs.Laws.{room-as}
-use Rattle.plane.specs.Vectors.{Near, fromTo, squareOf}
-use Rattle.plane.specs.Directions.{UnitLong}
+use Rattle.plane.specs.Vectors.{fromTo, squareOf}
+use Rattle.plane.specs.Directions.{UnitLong, directionOf}
 use Rattle.plane.proofs.Products.{bits}
-use Rattle.arc.specs.Edges.{edgeOf}
-use Rattle.arc.specs.Arcs.{ringOf, turnsOf, circleOf, arcOf}
-use Rattle.arc.specs.Bounds.{Turns}
-use Rattle.arc.proofs.Limits.{centre-near, radius-back, turns-within}
-use Rattle.arc.proofs.Rays.{about-near, short-told, not-empty-some, some-told, unit-told}
-use Rattle.arc.proofs.Cases.{arc-empty, arc-full, arc-swept, swept-turns}
-use Rattle.arc.proofs.Reach.{turns-reach}
-use Rattle.arc.proofs.Laid.{lays-none, lays-runs, lays-as}
-use Rattle.arc.proofs.Bows.{lays-may}
+use Rattle.turning.specs.Edges.{edgeOf}
+use Rattle.turning.specs.Arcs.{ringOf, circleOf, sweptOf, arcOf}
+use Rattle.turning.proofs.Limits.{centre-near, radius-back, radius-told}
+use Rattle.turning.proofs.Rays.{about-near, short-told, not-empty-some, some-told, unit-told}
+use Rattle.turning.proofs.Cases.{arc-empty, arc-full, arc-swept}
+use Rattle.folds.proofs.Laid.{lays-none, lays-as}
 use Rattle.arc.proofs.arcs.arc.Statement.{statement}
 use Rattle.arc.proofs.arcs.arc.Tie as tie
 
@@ -39,15 +37,15 @@ full-arc c =
     arc-full _ _ _ _ _ _ (r .before .from-to .ensures) (r .from-to2 .ensures) (b .before .before .sweep .ensures) (b .before .empty .ensures) (b .if1 .left)
     (d .before .direction .ensures) (d .direction2 .ensures) (c .before .full .ensures) (c .if2 .taken)
 
-turned-arc : (c : tie.Else2) → let a = second (c .before) .args in arcOf (a .pen .step) (a .c) (a .radius) (a .p) (a .q) (a .choice)
-    ≡ turnsOf 1536 (record { step = a .pen .step; centre = a .c; radius = bits (a .radius); to = a .q; toward = c .before .before .direction2 .result }) (c .before .before .before .direction .result) (a .p)
-turned-arc c =
+swept-arc : (c : tie.Else2) → let a = second (c .before) .args in arcOf (a .pen .step) (a .c) (a .radius) (a .p) (a .q) (a .choice) ≡ sweptOf (a .pen .step) (a .c) (bits (a .radius)) (a .p) (a .q)
+swept-arc c =
+    let a = second (c .before) .args in
     let d = c .before .before in
     let b = d .before .before .before .before in
     let r = b .before .before .before in
     arc-swept _ _ _ _ _ _ (r .before .from-to .ensures) (r .from-to2 .ensures) (b .before .before .sweep .ensures) (b .before .empty .ensures) (b .if1 .left)
     (d .before .direction .ensures) (d .direction2 .ensures) (c .before .full .ensures) (c .if2 .left)
-    ∙ swept-turns _ _ _ _ _ (radius-back (first b .pre .0 .2)) (r .before .from-to .ensures) (r .from-to2 .ensures) (d .before .direction .ensures) (d .direction2 .ensures)
+    ∙ ap (λ (r : ℤ). sweptOf (a .pen .step) (a .c) r (a .p) (a .q)) (sym (radius-back (first b .pre .0 .2)))
 
 from-to-requires : tie.Need-from-to-requires
 from-to-requires c κs = (centre-near (c .pre .0 .1), about-near (c .pre .0 .3) (c .pre .0 .1))
@@ -93,40 +91,33 @@ same-length c = search needs
 returns-2 : tie.Need-returns-2
 returns-2 c = lays-as (full-arc (c .before .before .before)) (c .before .ring .ensures)
 
--- what it keeps while it turns, within the limits
-kept : (c : tie.Else2) → let a = second (c .before) .args in
-    Turns (record { step = a .pen .step; centre = a .c; radius = bits (a .radius); to = a .q; toward = c .before .before .direction2 .result }) × UnitLong (c .before .before .before .direction .result) × Near (a .p)
-kept c =
-    let h = second (c .before) .pre .0 in
+-- what the arc between two directions asks for
+ready : (c : tie.Else2) → let a = second (c .before) .args in
+    UnitLong (c .before .before .before .direction .result)
+    × UnitLong (c .before .before .direction2 .result)
+    × (c .before .before .before .direction .result ≡ directionOf (fromTo (a .c) (a .p)))
+    × (c .before .before .direction2 .result ≡ directionOf (fromTo (a .c) (a .q)))
+ready c =
     let b = c .before .before .before .before .before .before in
+    let m = b .before .before .before .before .from-to .ensures in
+    let n = b .before .before .before .from-to2 .ensures in
+    let d = c .before .before .before .direction .ensures in
+    let e = c .before .before .direction2 .ensures in
     let s = some b in
-    let d = unit-told (b .before .before .before .before .from-to .ensures) (s .0) (c .before .before .before .direction .ensures) in
-    let e = unit-told (b .before .before .before .from-to2 .ensures) (s .1) (c .before .before .direction2 .ensures) in
-    (turns-within (h .0) (h .1) (h .2) (about-near (h .4) (h .1)) e, d, about-near (h .3) (h .1))
+    (unit-told m (s .0) d, unit-told n (s .1) e, d ∙ ap directionOf m, e ∙ ap directionOf n)
 
-fold-requires : tie.Need-fold-requires
-fold-requires c κs = let s = c .before .before .before in (kept s, room-as (turned-arc s) (c .before .before .before .before .before .before .before .before .before .before .before .before .before .before .pre .1))
+swept-requires : tie.Need-swept-requires
+swept-requires c κs =
+    let s = c .before in
+    let h = second (s .before) .pre .0 in
+    let d = ready s in
+    ((h .0, h .1, radius-told (h .2), h .3, h .4), (d, room-as (swept-arc s) (second (s .before) .pre .1)))
 
 same-length-2 : tie.Need-same-length-2
 same-length-2 c = search needs
 
 returns-3 : tie.Need-returns-3
-returns-3 c = lays-as (turned-arc (c .before .before .before .before .before)) (lays-may (c .before .before .before .if3 .taken) (c .before .fold .ensures))
-
-turns-requires : tie.Need-turns-requires
-turns-requires c κs =
-    let s = c .before .before .before in
-    let h = kept s in
-    (h .0, ((h .1, h .2), room-as (turned-arc s) (c .before .before .before .before .before .before .before .before .before .before .before .before .before .before .pre .1)))
-
-same-length-3 : tie.Need-same-length-3
-same-length-3 c = search needs
-
-returns-4 : tie.Need-returns-4
-returns-4 c =
-    let s = c .before .before .before .before .before in
-    let h = kept s in
-    lays-as (turned-arc s) (lays-runs (turns-reach 1536 _ _ _ (h .0) (h .1) (h .2)) (c .before .turns .ensures))
+returns-3 c = lays-as (swept-arc (c .before .before .before)) (c .before .swept .ensures)
 
 pub arc-spec : {M : Type 1} → statement M
 arc-spec =
@@ -145,9 +136,6 @@ arc-spec =
     ring-requires
     same-length
     returns-2
-    fold-requires
+    swept-requires
     same-length-2
-    returns-3
-    turns-requires
-    same-length-3
-    returns-4)
+    returns-3)

@@ -5,10 +5,10 @@ use mir.Syntax.{w64}
 use mir.Val.{toZ}
 use Rattle.runs.proofs.Laws.{room-first}
 use Rattle.plane.specs.Vectors.{fromTo}
-use Rattle.arc.specs.Arcs.{ringOf}
-use Rattle.arc.proofs.Limits.{centre-near}
-use Rattle.arc.proofs.Rays.{about-near, short-told, ring-radius, ring-told}
-use Rattle.arc.proofs.Laid.{lays-edge, lays-then, room-past}
+use Rattle.turning.specs.Arcs.{ringOf}
+use Rattle.turning.proofs.Limits.{centre-near}
+use Rattle.turning.proofs.Rays.{about-near, short-told, ring-radius, ring-told}
+use Rattle.folds.proofs.Laid.{lays-edge, lays-then, room-past}
 use Rattle.arc.proofs.arcs.ring.Statement.{statement}
 use Rattle.arc.proofs.arcs.ring.Tie as tie
 

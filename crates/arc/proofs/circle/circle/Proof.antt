@@ -11,15 +11,15 @@ use lib.IntN.{pos, negℤ}
 use Rattle.plane.specs.Vectors.{fromTo}
 use Rattle.plane.specs.Directions.{directionOf}
 use Rattle.plane.proofs.Products.{bits}
-use Rattle.arc.specs.Edges.{edgeNumbers}
-use Rattle.arc.specs.Arcs.{sweptOf, circleOf}
-use Rattle.arc.specs.Bounds.{About}
-use Rattle.arc.proofs.Limits.{radius-back, radius-told}
-use Rattle.arc.proofs.Rays.{east-told, west-told, eastward-unit, westward-unit, eastward-told, westward-told}
-use Rattle.arc.proofs.Cases.{circle-none, circle-some}
-use Rattle.arc.proofs.Reach.{circle-reach}
-use Rattle.arc.proofs.Laid.{lays-runs, lays-none, lays-as, lays-then, lays-plain, room-past}
-use Rattle.arc.proofs.Mirrored.{halves-alike, counted-twice}
+use Rattle.turning.specs.Edges.{edgeNumbers}
+use Rattle.turning.specs.Arcs.{sweptOf, circleOf}
+use Rattle.turning.specs.Bounds.{About}
+use Rattle.turning.proofs.Limits.{radius-back, radius-told}
+use Rattle.turning.proofs.Rays.{east-told, west-told, eastward-unit, westward-unit, eastward-told, westward-told}
+use Rattle.turning.proofs.Cases.{circle-none, circle-some}
+use Rattle.turning.proofs.Reach.{circle-reach}
+use Rattle.folds.proofs.Laid.{lays-runs, lays-none, lays-as, lays-then, lays-plain, room-past}
+use Rattle.turning.proofs.Mirrored.{halves-alike, counted-twice}
 use Rattle.arc.proofs.circle.circle.Statement.{statement}
 use Rattle.arc.proofs.circle.circle.Tie as tie
 

@@ -1,6 +1,6 @@
 -- `arc::circle::east` meets its contract: within the limits the sum fits. Assumes nothing.
 use borrow.Author.Needs.{needs}
-use Rattle.arc.proofs.Limits.{east-back}
+use Rattle.turning.proofs.Limits.{east-back}
 use Rattle.arc.proofs.circle.east.Statement.{statement}
 use Rattle.arc.proofs.circle.east.Tie as tie
 

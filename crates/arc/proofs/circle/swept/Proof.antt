@@ -5,14 +5,14 @@ use Rattle.runs.proofs.Laws.{room-as}
 use Rattle.plane.specs.Vectors.{Near}
 use Rattle.plane.specs.Directions.{UnitLong}
 use Rattle.plane.proofs.Products.{bits}
-use Rattle.arc.specs.Arcs.{turnsOf, sweptOf}
-use Rattle.arc.specs.Bounds.{Turns}
-use Rattle.arc.proofs.Limits.{radius-back, turns-within}
-use Rattle.arc.proofs.Rays.{about-near}
-use Rattle.arc.proofs.Cases.{swept-turns}
-use Rattle.arc.proofs.Laid.{lays-runs, lays-as}
-use Rattle.arc.proofs.Bows.{lays-may}
-use Rattle.arc.proofs.Reach.{turns-reach}
+use Rattle.turning.specs.Arcs.{turnsOf, sweptOf}
+use Rattle.turning.specs.Bounds.{Turns}
+use Rattle.turning.proofs.Limits.{radius-back, turns-within}
+use Rattle.turning.proofs.Rays.{about-near}
+use Rattle.turning.proofs.Cases.{swept-turns}
+use Rattle.folds.proofs.Laid.{lays-runs, lays-as}
+use Rattle.folds.proofs.Eleven.{lays-may}
+use Rattle.turning.proofs.Reach.{turns-reach}
 use Rattle.arc.proofs.circle.swept.Statement.{statement}
 use Rattle.arc.proofs.circle.swept.Tie as tie
 

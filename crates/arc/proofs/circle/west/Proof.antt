@@ -1,6 +1,6 @@
 -- `arc::circle::west` meets its contract: within the limits the difference fits. Assumes nothing.
 use Rattle.plane.proofs.Products.{small-fits, small-back}
-use Rattle.arc.proofs.Limits.{minus-small, west-back}
+use Rattle.turning.proofs.Limits.{minus-small, west-back}
 use Rattle.arc.proofs.circle.west.Statement.{statement}
 use Rattle.arc.proofs.circle.west.Tie as tie
 

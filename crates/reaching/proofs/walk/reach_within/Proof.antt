@@ -3,9 +3,9 @@ use mathlib.Core.Path.{_≡_, sym, _∙_}
 use Prim.Native.Nat.{_+_, _-_, _≤_}
 use native.Mathlib.Omega.{arith}
 use lib.ListN.{drop}
-use Rattle.variable_stroke.specs.Local.{thinRun, reachOf}
-use Rattle.variable_stroke.specs.Paths.{pathOf}
-use Rattle.variable_stroke.proofs.PathWalk.{path-count}
+use Rattle.locality.specs.Local.{thinRun, reachOf}
+use Rattle.paths.specs.Paths.{pathOf}
+use Rattle.paths.proofs.PathWalk.{path-count}
 use Rattle.reaching.proofs.Reaches.{thin-none, thin-more, thin-end, reach-start}
 use Rattle.reaching.proofs.walk.reach_within.Statement.{statement}
 use Rattle.reaching.proofs.walk.reach_within.Tie as tie

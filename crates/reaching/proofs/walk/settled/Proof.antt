@@ -1,6 +1,6 @@
 -- `reaching::walk::settled` meets its contract: one kind a case. Assumes nothing.
 use borrow.Author.Needs.{needs}
-use Rattle.variable_stroke.specs.Local.{settles}
+use Rattle.locality.specs.Local.{settles}
 use Rattle.reaching.proofs.walk.settled.Statement.{statement}
 use Rattle.reaching.proofs.walk.settled.Tie as tie
 

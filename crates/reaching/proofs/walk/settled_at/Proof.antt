@@ -1,8 +1,8 @@
 -- `reaching::walk::settled_at` meets its contract: both vertices are within the limits. Assumes nothing.
 use native.Mathlib.Omega.{arith}
 use borrow.Author.Needs.{needs}
-use Rattle.variable_stroke.specs.Paths.{pathOf}
-use Rattle.variable_stroke.proofs.PathWalk.{path-count}
+use Rattle.paths.specs.Paths.{pathOf}
+use Rattle.paths.proofs.PathWalk.{path-count}
 use Rattle.reaching.proofs.Reaches.{inside-at, settles-of}
 use Rattle.reaching.proofs.walk.settled_at.Statement.{statement}
 use Rattle.reaching.proofs.walk.settled_at.Tie as tie

@@ -2,9 +2,9 @@
 use borrow.Author.Needs.{needs}
 use borrow.Author.Tests.{not-false}
 use native.Mathlib.Omega.{arith}
-use Rattle.arc.proofs.Limits.{radius-told}
-use Rattle.arc.proofs.Most.{arc-most}
-use Rattle.variable_stroke.proofs.Steps.{place-near}
+use Rattle.turning.proofs.Limits.{radius-told}
+use Rattle.turning.proofs.Most.{arc-most}
+use Rattle.contacts.proofs.Steps.{place-near}
 use Rattle.run_arcs.proofs.Guards.{inside-told, centre-told, few-room}
 use Rattle.run_arcs.proofs.answer.arc.Statement.{statement}
 use Rattle.run_arcs.proofs.answer.arc.Tie as tie

@@ -1,8 +1,8 @@
 -- `run_arcs::answer::circle` is safe: the vertex is allowed, and a circle has few edges. Assumes nothing.
 use borrow.Author.Needs.{needs}
 use native.Mathlib.Omega.{arith}
-use Rattle.arc.proofs.Limits.{radius-told}
-use Rattle.arc.proofs.Most.{circle-most}
+use Rattle.turning.proofs.Limits.{radius-told}
+use Rattle.turning.proofs.Most.{circle-most}
 use Rattle.run_arcs.proofs.Guards.{inside-told, centre-told, few-room}
 use Rattle.run_arcs.proofs.answer.circle.Statement.{statement}
 use Rattle.run_arcs.proofs.answer.circle.Tie as tie

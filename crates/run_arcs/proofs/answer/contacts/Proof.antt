@@ -1,7 +1,7 @@
 -- `run_arcs::answer::contacts` is safe: both vertices are allowed, and a drawn or thin step is not broken. Assumes nothing.
 use mathlib.Core.Path.{sym, _∙_}
 use borrow.Author.Needs.{needs}
-use Rattle.variable_stroke.proofs.Steps.{drawn-whole, thin-whole}
+use Rattle.contacts.proofs.Steps.{drawn-whole, thin-whole}
 use Rattle.run_arcs.proofs.Guards.{inside-told}
 use Rattle.run_arcs.proofs.answer.contacts.Statement.{statement}
 use Rattle.run_arcs.proofs.answer.contacts.Tie as tie

@@ -1,7 +1,7 @@
 -- `run_arcs::answer::covering` is safe: the section is that of a step that is not broken, so its contacts are about their centres. Assumes nothing.
 use borrow.Author.Needs.{needs}
 use borrow.Author.Tests.{not-false}
-use Rattle.variable_stroke.proofs.Contacts.{section-around}
+use Rattle.contacts.proofs.Contacts.{section-around}
 use Rattle.run_arcs.proofs.Guards.{inside-told}
 use Rattle.run_arcs.proofs.answer.covering.Statement.{statement}
 use Rattle.run_arcs.proofs.answer.covering.Tie as tie

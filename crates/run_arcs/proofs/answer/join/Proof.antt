@@ -2,8 +2,8 @@
 use borrow.Author.Needs.{needs}
 use borrow.Author.Tests.{not-false}
 use native.Mathlib.Omega.{arith}
-use Rattle.variable_stroke.proofs.Contacts.{section-around}
-use Rattle.variable_stroke.proofs.Most.{join-most}
+use Rattle.contacts.proofs.Contacts.{section-around}
+use Rattle.paths.proofs.Most.{join-most}
 use Rattle.run_arcs.proofs.Guards.{few-room}
 use Rattle.run_arcs.proofs.answer.join.Statement.{statement}
 use Rattle.run_arcs.proofs.answer.join.Tie as tie

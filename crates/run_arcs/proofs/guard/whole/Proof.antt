@@ -1,7 +1,7 @@
 -- `run_arcs::guard::whole` meets its contract: both vertices are allowed, and the kind of the step was looked at. Assumes nothing.
 use mathlib.Core.Path.{sym, _∙_}
 use borrow.Author.Needs.{needs}
-use Rattle.variable_stroke.proofs.Steps.{drawn-whole, thin-whole}
+use Rattle.contacts.proofs.Steps.{drawn-whole, thin-whole}
 use Rattle.run_arcs.proofs.Guards.{refused, inside-told}
 use Rattle.run_arcs.proofs.guard.whole.Statement.{statement}
 use Rattle.run_arcs.proofs.guard.whole.Tie as tie

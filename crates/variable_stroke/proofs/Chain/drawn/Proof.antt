@@ -1,8 +1,8 @@
 -- `variable_stroke::Chain::drawn` meets its contract: both sides, then the meeting. Assumes nothing.
 use borrow.Author.Needs.{needs}
 use Rattle.runs.proofs.Laws.{room-first, room-then, room-as}
-use Rattle.arc.proofs.Laid.{lays-edge, lays-as, lays-then}
-use Rattle.variable_stroke.proofs.CapsAndJoins.{left-reach, right-reach}
+use Rattle.folds.proofs.Laid.{lays-edge, lays-as, lays-then}
+use Rattle.joins.proofs.CapsAndJoins.{left-reach, right-reach}
 use Rattle.variable_stroke.proofs.ChainSteps.{drawn-is}
 use Rattle.variable_stroke.proofs.Chain.drawn.Statement.{statement}
 use Rattle.variable_stroke.proofs.Chain.drawn.Tie as tie

@@ -1,7 +1,7 @@
 -- `variable_stroke::Chain::end` meets its contract: the end cap of the last section, or the circle of a lone vertex. Assumes nothing.
 use borrow.Author.Needs.{needs}
 use Rattle.runs.proofs.Laws.{room-as}
-use Rattle.arc.proofs.Laid.{lays-as}
+use Rattle.folds.proofs.Laid.{lays-as}
 use Rattle.variable_stroke.proofs.ChainSteps.{finish-held, finish-none, held-around}
 use Rattle.variable_stroke.proofs.Chain.end.Statement.{statement}
 use Rattle.variable_stroke.proofs.Chain.end.Tie as tie

@@ -1,9 +1,9 @@
 -- `variable_stroke::Chain::lone` meets its contract: no circle where a step was marked or both caps are Butt. Assumes nothing.
 use borrow.Author.Needs.{needs}
 use Rattle.runs.proofs.Laws.{room-as}
-use Rattle.arc.proofs.Laid.{lays-none, lays-as}
-use Rattle.variable_stroke.proofs.CapsAndJoins.{radius-told}
-use Rattle.variable_stroke.proofs.Contacts.{centre-is}
+use Rattle.folds.proofs.Laid.{lays-none, lays-as}
+use Rattle.joins.proofs.CapsAndJoins.{radius-told}
+use Rattle.contacts.proofs.Contacts.{centre-is}
 use Rattle.variable_stroke.proofs.ChainSteps.{lone-marked, lone-butt, lone-circle}
 use Rattle.variable_stroke.proofs.Chain.lone.Statement.{statement}
 use Rattle.variable_stroke.proofs.Chain.lone.Tie as tie

@@ -1,7 +1,7 @@
 -- `variable_stroke::Chain::meet` meets its contract: a join to the last section, or the start cap. Assumes nothing.
 use borrow.Author.Needs.{needs}
 use Rattle.runs.proofs.Laws.{room-as}
-use Rattle.arc.proofs.Laid.{lays-as}
+use Rattle.folds.proofs.Laid.{lays-as}
 use Rattle.variable_stroke.proofs.ChainSteps.{meet-held, meet-none, held-around}
 use Rattle.variable_stroke.proofs.Chain.meet.Statement.{statement}
 use Rattle.variable_stroke.proofs.Chain.meet.Tie as tie

@@ -1,7 +1,7 @@
 -- `variable_stroke::Walk::close` meets its contract: the chain's end with a pen that folds nothing. Assumes nothing.
 use mathlib.Core.Path.{refl}
 use borrow.Author.Needs.{needs}
-use Rattle.arc.proofs.Laid.{lays-plain}
+use Rattle.folds.proofs.Laid.{lays-plain}
 use Rattle.variable_stroke.proofs.Walk.close.Statement.{statement}
 use Rattle.variable_stroke.proofs.Walk.close.Tie as tie
 

@@ -2,10 +2,10 @@
 use mathlib.Core.Path.{refl}
 use borrow.Author.Needs.{needs}
 use Rattle.runs.proofs.Laws.{room-first, room-as}
-use Rattle.arc.proofs.Laid.{room-past}
+use Rattle.folds.proofs.Laid.{room-past}
 use Rattle.variable_stroke.proofs.ChainSteps.{emitted-drawn, leave-around, walk-drawn}
-use Rattle.variable_stroke.proofs.Steps.{drawn-whole}
-use Rattle.variable_stroke.proofs.Contacts.{section-around}
+use Rattle.contacts.proofs.Steps.{drawn-whole}
+use Rattle.contacts.proofs.Contacts.{section-around}
 use Rattle.variable_stroke.proofs.Walk.drawn.Statement.{statement}
 use Rattle.variable_stroke.proofs.Walk.drawn.Tie as tie
 

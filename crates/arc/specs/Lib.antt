@@ -1,8 +1,0 @@
--- Document 01, "Arcs": what the contracts cite.
-pub mod Edges
-pub mod Arcs
-pub mod Bounds
-pub mod Counts
-pub mod Landings
-pub mod Leaps
-pub mod Folds

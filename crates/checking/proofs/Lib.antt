@@ -1,0 +1,6 @@
+-- The crate's own laws.
+pub mod Comparisons
+pub mod FirstByte
+pub mod Shown
+pub mod StoreReads
+pub mod StoreRows

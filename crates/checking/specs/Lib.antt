@@ -1,0 +1,4 @@
+-- What the contracts cite.
+pub mod Compares
+pub mod StoreChecks
+pub mod StoreRows

@@ -1,0 +1,59 @@
+-- `contacts::math::tangent` meets its contract: the shift leaves room for the square. Assumes nothing.
+use mathlib.Core.Path.{_≡_}
+use Prim.Native.Nat.{_*_, _<_}
+use borrow.Author.Needs.{needs}
+use native.Mathlib.Omega.{arith}
+use lib.IntN.{natAbs}
+use Rattle.plane.proofs.Products.{back}
+use Rattle.contacts.proofs.Contacts.{Shifts}
+use Rattle.contacts.proofs.Tangents.{shifts-as, tangent-back}
+use Rattle.contacts.proofs.math.tangent.Statement.{statement}
+use Rattle.contacts.proofs.math.tangent.Tie as tie
+
+size-requires : tie.Need-size-requires
+size-requires c κs = search needs
+
+length : (c : tie.After-size) → c .size .result ≡ natAbs (c .before .args .delta)
+length c = rw (back (c .before .fits .delta)) at (c .size .ensures)
+
+square : (c : tie.After-size) → c .size .result * c .size .result < c .before .args .sq
+square c = rw (length c) (c .before .pre .0)
+
+room : (c : tie.After-size) → Shifts (c .before .args .sq) (c .before .args .k)
+room c = shifts-as _ _ (omega (arith, c .before .pre .0)) (c .before .pre .1) (c .before .pre .2)
+
+mul-quick-root : tie.Need-mul-quick-root
+mul-quick-root c = omega (arith, square c, c .before .pre .1)
+
+sub-quick-root : tie.Need-sub-quick-root
+sub-quick-root c = omega (arith, square c)
+
+mul-quick-root-2 : tie.Need-mul-quick-root-2
+mul-quick-root-2 c = omega (arith, room c .high)
+
+cast-quick-root : tie.Need-cast-quick-root
+cast-quick-root c = search needs
+
+shl-quick-root : tie.Need-shl-quick-root
+shl-quick-root c = omega (arith, room c .high)
+
+quick-root-requires : tie.Need-quick-root-requires
+quick-root-requires c κs = search needs
+
+returns : tie.Need-returns
+returns c =
+    let s = c .before .before in
+    tangent-back _ _ (omega (arith, s .pre .0)) (s .pre .1) (s .pre .2) _ (length (c .before)) (c .quick-root .ensures)
+
+pub tangent-spec : {M : Type 1} → statement M
+tangent-spec =
+    tie.close
+    (tie.spec
+    size-requires
+    mul-quick-root
+    sub-quick-root
+    mul-quick-root-2
+    cast-quick-root
+    shl-quick-root
+    quick-root-requires
+    returns)

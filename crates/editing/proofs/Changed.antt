@@ -1,0 +1,94 @@
+-- After the reply 0 every row failed, so the path with the new vertex is within the limits, and its outline is sound. Assumes nothing.
+use mathlib.Core.Path.{_≡_, refl, sym, ap, _∙_}
+use mathlib.Core.Bool.{true}
+use mathlib.Core.List.{List, [], _∷_, _++_, append-assoc}
+use Prim.Native.Nat.{ℕ, zero, suc, _+_, _-_, _≤_}
+use native.Mathlib.Nat.{le-antisymm}
+use native.Mathlib.Omega.{arith}
+use lib.ListN.{length, drop, set, replicate, length-set}
+use borrow.Author.Tests.{ltb-false, not-false}
+use Rattle.contacts.specs.Limits.{allowedOf, firstOutside}
+use Rattle.contacts.specs.declared.Vertex.{Vertex}
+use Rattle.locality.proofs.Locality.{earlier-kept, reach-kept}
+use Rattle.outline.specs.Layout.{headerWords}
+use Rattle.outline.specs.Outlines.{outlineBytes}
+use Rattle.words.specs.Words.{wordsIn}
+use Rattle.outline.specs.Stores.{gradeIn, countIn, lengthIn, entriesIn, pathIn, bodiesIn, soundOf}
+use Rattle.checking.specs.StoreRows.{editionRow, kindRow, lengthRow, soundRow, storeRows}
+use Rattle.replies.specs.Replies.{gradeRow, countRow, outsideRow, indexRow, newRow, roomRow, written}
+use Rattle.editing.specs.Replacing.{replacedOf, replaceReply, replaceOut, ReplacedIsSound, StoreKept}
+use Rattle.paths.specs.Paths.{Within}
+use Rattle.replies.proofs.Rows.{NoneHold, first-none, either}
+use Rattle.contacts.proofs.Allowed.{inside-first, outside-most}
+use Rattle.outline.proofs.ReadBack.{kept-is-sound}
+
+-- ---- the path
+
+entries-count : (n : ℕ) (ws : List ℕ) → length (entriesIn n ws) ≤ n
+unfolding entriesIn
+entries-count zero ws = omega arith
+entries-count (suc n) [] = omega arith
+entries-count (suc n) (x ∷ []) = omega arith
+entries-count (suc n) (x ∷ y ∷ []) = omega arith
+entries-count (suc n) (x ∷ y ∷ r ∷ []) = omega arith
+entries-count (suc n) (x ∷ y ∷ r ∷ c ∷ ws) = omega (arith, entries-count n ws)
+
+outside-set : (vs : List Vertex) (k : ℕ) (v : Vertex) → allowedOf v ≡ true → firstOutside vs ≡ length vs → firstOutside (set vs k v) ≡ length vs
+unfolding firstOutside
+outside-set [] k v a h = refl
+outside-set (u ∷ vs) zero v a h = rw (a, firstOutside) (ap suc (inside-first u vs h .1))
+outside-set (u ∷ vs) (suc k) v a h = rw (inside-first u vs h .0, firstOutside) (ap suc (outside-set vs k v a (inside-first u vs h .1)))
+
+-- ---- the call
+
+pub replace-none : (s : List ℕ) (k : ℕ) (v : Vertex) → replaceReply s k v .0 ≡ 0
+    → NoneHold (storeRows s ++ (indexRow (length (pathIn s)) k ∷ newRow v k ∷ roomRow (length (replacedOf s k v)) (length s) (length (replacedOf s k v)) ∷ []))
+unfolding replaceReply storeRows editionRow kindRow gradeRow countRow lengthRow outsideRow soundRow indexRow newRow roomRow
+replace-none s k v h = first-none _ _ (refl, (refl, (refl, (refl, (refl, (refl, (refl, (refl, (refl, (refl, tt)))))))))) h
+
+-- the store's own path is within the limits, and so is it with a vertex that is allowed
+pub within-store : (s : List ℕ) (k : ℕ) (v : Vertex) → replaceReply s k v .0 ≡ 0 → Within (gradeIn s) (pathIn s)
+unfolding storeRows gradeRow countRow outsideRow pathIn
+within-store s k v h =
+    let r = replace-none s k v h in
+    let g = either _ _ (r .1 .1 .0) in
+    let vs = pathIn s in
+    let n : length vs ≤ countIn s = entries-count (countIn s) (drop headerWords (wordsIn s)) in
+    record {
+      low = ltb-false _ _ (g .0);
+      high = ltb-false _ _ (g .1);
+      count = omega (arith, n, ltb-false 4096 (countIn s) (r .1 .1 .1 .0));
+      inside = le-antisymm (outside-most vs) (ltb-false _ _ (r .1 .1 .1 .1 .1 .0));
+    }
+
+pub within-changed : (g : ℕ) (vs : List Vertex) (k : ℕ) (v : Vertex) → Within g vs → allowedOf v ≡ true → Within g (set vs k v)
+within-changed g vs k v h a = record {
+  low = h .low;
+  high = h .high;
+  count = omega (arith, length-set vs k v, h .count);
+  inside = outside-set vs k v a (h .inside) ∙ sym (length-set vs k v);
+}
+
+pub within-set : (s : List ℕ) (k : ℕ) (v : Vertex) → replaceReply s k v .0 ≡ 0 → Within (gradeIn s) (set (pathIn s) k v)
+unfolding storeRows newRow
+within-set s k v h = within-changed (gradeIn s) (pathIn s) k v (within-store s k v h) (not-false _ (replace-none s k v h .1 .1 .1 .1 .1 .1 .1 .1 .0))
+
+pub sound-store : (s : List ℕ) (k : ℕ) (v : Vertex) → replaceReply s k v .0 ≡ 0 → soundOf s ≡ true
+unfolding storeRows soundRow
+sound-store s k v h = not-false _ (replace-none s k v h .1 .1 .1 .1 .1 .1 .0)
+
+pub out-is : (s : List ℕ) (k : ℕ) (v : Vertex) → replaceReply s k v .0 ≡ 0
+    → replaceOut s k v ≡ outlineBytes (gradeIn s) (set (pathIn s) k v) ++ (replicate (lengthIn s - length (replacedOf s k v)) 0 ++ drop (length (replacedOf s k v ++ replicate (lengthIn s - length (replacedOf s k v)) 0)) s)
+unfolding replaceOut written replacedOf
+out-is s k v h = rw (h, written) (append-assoc (replacedOf s k v) (replicate (lengthIn s - length (replacedOf s k v)) 0) _)
+
+pub replaced-is-sound : ReplacedIsSound
+replaced-is-sound s k v h =
+    let b = kept-is-sound (gradeIn s) (set (pathIn s) k v) (replicate (lengthIn s - length (replacedOf s k v)) 0 ++ drop (length (replacedOf s k v ++ replicate (lengthIn s - length (replacedOf s k v)) 0)) s) (within-set s k v h) in
+    (rw (out-is s k v h) (b .0), rw (out-is s k v h) (b .1), rw (out-is s k v h) (b .3))
+
+pub store-kept : StoreKept
+unfolding bodiesIn
+store-kept s k v h =
+    let r = replaced-is-sound s k v h in
+    (rw (r .0, r .1) (earlier-kept (gradeIn s) (pathIn s) k v), λ j. rw (r .0, r .1) (reach-kept (gradeIn s) (pathIn s) k v j))

@@ -1,0 +1,5 @@
+-- The crate's own laws.
+pub mod Changed
+pub mod KnownStore
+pub mod NewVertex
+pub mod OneReplacing

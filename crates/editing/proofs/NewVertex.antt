@@ -1,0 +1,146 @@
+-- Another vertex in the path of a store: among its numbers, within the limits, and what replace then replies. Assumes nothing.
+use mathlib.Core.Path.{_≡_, refl, sym, ap, _∙_}
+use mathlib.Core.Bool.{true, false}
+use mathlib.Core.List.{List, [], _∷_, _++_}
+use Prim.Native.Nat.{ℕ, zero, suc, _+_, _*_, _/_, _^_, _≤_, _<_}
+use native.Mathlib.Numerals.{add-one, add-two}
+use native.Mathlib.Omega.{arith}
+use borrow.Author.Tests.{le-leb, lt-leb}
+use lib.IntN.{ℤ}
+use lib.ListN.{length, set, take, drop, length-set, length-take, take-append-drop}
+use lib.Seq.{take-at}
+use mir.Syntax.{w32}
+use mir.Val.{toZ, ofZ}
+use mir.Facts.{toZ-ofZ}
+use Rattle.whole.specs.Sizes.{Size}
+use Rattle.whole.proofs.Sizes.{size-fits}
+use Rattle.runs.specs.Runs.{spread, over, Runs, put}
+use Rattle.plane.proofs.Products.{bits, back}
+use Rattle.contacts.specs.Bounds.{Inside}
+use Rattle.contacts.specs.Limits.{allowedOf, firstOutside}
+use Rattle.paths.specs.Paths.{pathOf, vertexNumbers, pathNumbers, Within}
+use Rattle.contacts.specs.declared.Vertex.{Vertex}
+use Rattle.outline.specs.Layout.{lengthOf}
+use Rattle.outline.specs.Outlines.{outlineBytes}
+use Rattle.outline.specs.Stores.{lengthIn, pathIn}
+use Rattle.replies.specs.Replies.{firstRow, indexRow, newRow, roomRow}
+use Rattle.checking.specs.StoreRows.{storeRows}
+use Rattle.editing.specs.Replacing.{replacedOf, replaceReply, replaceOut, replyOfReplaced, Replaces}
+use Rattle.replies.specs.Refusals.{refusalOf}
+use Rattle.keeping.specs.Keeping.{replyOfKept}
+use Rattle.replies.specs.Checks.{Fits}
+use Rattle.keeping.specs.Rewriting.{Rewrites}
+use Rattle.editing.specs.Known.{Known}
+use Rattle.replies.specs.declared.Refusal.the-variants.{NoVertex, Outside}
+use Rattle.keeping.specs.declared.Kept.{Kept}
+use Rattle.editing.specs.declared.Replaced.{Replaced}
+use Rattle.editing.specs.declared.Replaced.the-variants as replaced
+use Rattle.outline.proofs.ReadBack.{numbers-count}
+use Rattle.checking.proofs.StoreRows.{path-count-in}
+use Rattle.editing.proofs.Changed.{within-changed}
+use Rattle.replies.proofs.Rows.{rows-append, refused-written}
+use Rattle.replies.proofs.PathChecks.{passes}
+use Rattle.checking.proofs.Shown.{path-back}
+use Rattle.outline.proofs.Parts.{radius-size}
+
+-- ---- a path and its numbers
+
+numbers-set : (vs : List Vertex) (k : ℕ) (v : Vertex) (rest : List ℤ) → k < length vs → over put (pathNumbers vs ++ rest) (3 * k) (vertexNumbers v) ≡ pathNumbers (set vs k v) ++ rest
+unfolding over pathNumbers vertexNumbers spread
+numbers-set [] k v rest h = absurd (omega arith)
+numbers-set (u ∷ vs) zero v rest h = refl
+numbers-set (u ∷ vs) (suc k) v rest h =
+    let e : 3 * suc k ≡ suc (suc (suc (3 * k))) = omega arith in
+    rw e (ap (λ (l : List ℤ). u .x ∷ u .y ∷ u .radius ∷ l) (numbers-set vs k v rest (omega arith)))
+
+run-one : {l l₁ : List ℤ} {a b : ℕ} (v : Vertex) → Runs put vertexNumbers l a (v ∷ []) l₁ b → l₁ ≡ over put l a (vertexNumbers v)
+unfolding spread vertexNumbers
+run-one v p = p .out
+
+-- p are numbers whose first 3 n are those of the vertices vs
+numbers-changed : (vs : List Vertex) (k : ℕ) (v : Vertex) (p : List ℤ) {p₁ : List ℤ} {n e w : ℕ} → n ≡ length vs → take (3 * n) p ≡ pathNumbers vs → k < n
+    → Runs put vertexNumbers p (3 * k) (v ∷ []) p₁ w → e ≡ 3 * n → take e p₁ ≡ pathNumbers (set vs k v)
+numbers-changed vs k v p {p₁} {n} {e} en f h q ee =
+    let a : p ≡ pathNumbers vs ++ drop (3 * n) p = sym (take-append-drop (3 * n) p) ∙ ap (λ (l : List ℤ). l ++ drop (3 * n) p) f in
+    let b : p₁ ≡ pathNumbers (set vs k v) ++ drop (3 * n) p =
+    run-one v q ∙ ap (λ (l : List ℤ). over put l (3 * k) (vertexNumbers v)) a ∙ numbers-set vs k v (drop (3 * n) p) (omega arith) in
+    let c : length (pathNumbers (set vs k v)) ≡ e = omega (arith, numbers-count (set vs k v), length-set vs k v) in
+    ap (λ (l : List ℤ). take e l) b ∙ take-at (pathNumbers (set vs k v)) (drop (3 * n) p) e c
+
+-- ---- three numbers stored
+
+abbrev number : ℤ → ℤ
+number r = toZ w32 (ofZ w32 r)
+
+narrowed : {r z : ℤ} → Size (2 ^ 28) z → r ≡ bits z → number r ≡ z
+narrowed h e = rw (e, back (size-fits (2 ^ 28) _ _ h tt)) (toZ-ofZ (size-fits (2 ^ 28) w32 _ h tt))
+
+-- x, y and r are what the code has for the three numbers
+pub vertex-put : {l₀ l₁ l₂ l₃ : List ℤ} {at : ℕ} (v : Vertex) {x y r : ℤ} → Inside v → x ≡ bits (v .x) → y ≡ bits (v .y) → r ≡ bits (v .radius)
+    → l₁ ≡ set l₀ at (number x) → l₂ ≡ set l₁ (at + 1) (number y) → l₃ ≡ set l₂ (at + 2) (number r) → Runs put vertexNumbers l₀ at (v ∷ []) l₃ (at + 3)
+unfolding spread over vertexNumbers
+vertex-put {at = at} v h ex ey er p q s =
+    record { out = cc (add-one at, add-two at, narrowed (h .x) ex, narrowed (h .y) ey, narrowed (radius-size (h .radius)) er); pos = refl }
+
+-- ---- within the limits
+
+-- the numbers of a path within the limits pass the rows of a path
+pub numbers-fit : (g : ℕ) (vs : List Vertex) (p : List ℤ) {n : ℕ} → p ≡ pathNumbers vs → n ≡ length vs → Within g vs → Fits p g n
+numbers-fit g vs p {n} e en h =
+    let q : pathOf p ≡ vs = ap pathOf e ∙ path-back vs in
+    let l : length p ≡ 3 * length vs = ap length e ∙ numbers-count vs in
+    let c : length p / 3 ≡ n = omega arith in
+    let i : firstOutside (pathOf p) ≡ length vs = ap firstOutside q ∙ h .inside in
+    rw c at (passes p g (omega arith) (h .low) (h .high) (omega (arith, h .count)) {i = firstOutside (pathOf p)} refl (omega arith) .fits _ refl)
+
+-- ---- the rows of a change
+
+module _ {s : List ℕ} {p : List ℤ} {g n m : ℕ} (h : Known s p g n m) where
+  known-count : length (pathIn s) ≡ n
+  known-count = path-count-in s (h .long) ∙ sym (h .vertices)
+
+  known-long : lengthOf n m ≡ lengthIn s
+  unfolding lengthIn
+  known-long = omega (arith, h .vertices, h .edges)
+
+  -- what the code's sums and parts need
+  pub known-few : (n ≤ 4096) × (3 * n ≤ length p) × (lengthOf n m ≤ length s)
+  known-few = (omega (arith, known-count, h .within .count), omega (arith, ap length (h .path), numbers-count (pathIn s), known-count, length-take (3 * n) p), omega (arith, known-long, h .long))
+
+  module _ (k : ℕ) (v : Vertex) where
+    after : replaceReply s k v ≡ firstRow (indexRow n k ∷ newRow v k ∷ roomRow (length (replacedOf s k v)) (length s) (length (replacedOf s k v)) ∷ []) (0, length (replacedOf s k v))
+    unfolding replaceReply
+    after = rows-append (storeRows s) _ _ ∙ h .passed _ ∙ rw known-count
+
+    pub change-none : n ≤ k → Replaces s k v (replaced.Refused (NoVertex k)) s
+    unfolding replyOfReplaced refusalOf replaceOut firstRow indexRow
+    change-none l =
+        let r : (9, k) ≡ replaceReply s k v = sym (after ∙ rw (le-leb n k l, firstRow)) in
+        record { reply = r; store = refused-written (NoVertex k) _ s r }
+
+    module _ (l : k < n) where
+      -- the path's numbers with the vertex put among them
+      module _ {p₁ : List ℤ} {e w : ℕ} (q : Runs put vertexNumbers p (3 * k) (v ∷ []) p₁ w) (ee : e ≡ 3 * n) where
+        changed : take e p₁ ≡ pathNumbers (set (pathIn s) k v)
+        changed = numbers-changed (pathIn s) k v p (sym known-count) (h .path) l q ee
+
+        pub changed-path : pathOf (take e p₁) ≡ set (pathIn s) k v
+        changed-path = ap pathOf changed ∙ path-back (set (pathIn s) k v)
+
+        pub changed-fits : allowedOf v ≡ true → Fits (take e p₁) g n
+        changed-fits a = numbers-fit g (set (pathIn s) k v) (take e p₁) changed (sym known-count ∙ sym (length-set (pathIn s) k v)) (within-changed g (pathIn s) k v (rw (h .grade) (h .within)) a)
+
+      pub change-outside : allowedOf v ≡ false → Replaces s k v (replaced.Refused (Outside k)) s
+      unfolding replyOfReplaced refusalOf replaceOut firstRow indexRow newRow
+      change-outside a =
+          let r : (4, k) ≡ replaceReply s k v = sym (after ∙ rw (lt-leb n k l, firstRow, a, firstRow)) in
+          record { reply = r; store = refused-written (Outside k) _ s r }
+
+      pub change-done : (us : List Vertex) {old : ℕ} {a : Kept} {r : Replaced} {s′ : List ℕ} → allowedOf v ≡ true → us ≡ set (pathIn s) k v → old ≡ lengthOf n m
+          → Rewrites s (outlineBytes g us) old a s′ → replyOfReplaced r ≡ replyOfKept a → Replaces s k v r s′
+      unfolding replacedOf replaceOut firstRow indexRow newRow
+      change-done us {a = a} al eu eo w e =
+          let new : outlineBytes g us ≡ replacedOf s k v = λ i. outlineBytes (h .grade i) (eu i) in
+          let w′ = rw (new, eo ∙ known-long) at w in
+          let f : replyOfKept a ≡ replaceReply s k v = w′ .reply ∙ sym (after ∙ rw (lt-leb n k l, firstRow, al, firstRow)) in
+          record { reply = e ∙ f; store = rw f at (w′ .bytes) }

@@ -1,0 +1,56 @@
+-- Document 01, "Replies, tested in this order": replace, its answer, its promise, and how far a replacement reaches.
+use mathlib.Core.Bool.{true}
+use mathlib.Core.List.{List, [], _∷_, _++_}
+use Prim.Native.Nat.{ℕ, _+_, _-_, _<_}
+use lib.ListN.{length, drop, set, replicate, take}
+use Rattle.contacts.specs.declared.Vertex.{Vertex}
+use Rattle.outline.specs.Outlines.{outlineBytes}
+use Rattle.outline.specs.Stores.{gradeIn, lengthIn, pathIn, soundOf, bodiesIn}
+use mathlib.Core.Path.{_≡_}
+use Rattle.replies.specs.Replies.{Reply, firstRow, indexRow, newRow, roomRow, written}
+use Rattle.editing.specs.declared.Replaced.{Replaced}
+use Rattle.editing.specs.declared.Replaced.the-variants as replaced
+use Rattle.locality.specs.Local.{reachOf}
+use Rattle.replies.specs.Refusals.{refusalOf}
+use Rattle.checking.specs.StoreRows.{storeRows}
+
+-- ---- replace a vertex: the outline of the path with v at k
+
+unfoldable pub replacedOf : List ℕ → ℕ → Vertex → List ℕ
+replacedOf s k v = outlineBytes (gradeIn s) (set (pathIn s) k v)
+
+unfoldable pub replaceReply : List ℕ → ℕ → Vertex → Reply
+replaceReply s k v =
+    let m = length (replacedOf s k v) in
+    firstRow (storeRows s ++ (indexRow (length (pathIn s)) k ∷ newRow v k ∷ roomRow m (length s) m ∷ [])) (0, m)
+
+-- A replaced outline that shrank is followed by zeros up to its old end.
+unfoldable pub replaceOut : List ℕ → ℕ → Vertex → List ℕ
+replaceOut s k v =
+    let made = replacedOf s k v in
+    written (replaceReply s k v) (made ++ replicate (lengthIn s - length made) 0) s
+
+unfoldable pub replyOfReplaced : Replaced → Reply
+replyOfReplaced (replaced.Bytes n) = (0, n)
+replyOfReplaced (replaced.Refused r) = refusalOf r
+
+pub record Replaces (store₀ : List ℕ) (index : ℕ) (v : Vertex) (answer : Replaced) (store₁ : List ℕ) : Type 0 where
+  pub reply : replyOfReplaced answer ≡ replaceReply store₀ index v
+  pub store : store₁ ≡ replaceOut store₀ index v
+
+-- A store in which a vertex was replaced is sound again, with the same grade and the path with that vertex.
+abbrev pub ReplacedIsSound : Type 0
+ReplacedIsSound = (s : List ℕ) (k : ℕ) (v : Vertex) → replaceReply s k v .0 ≡ 0
+    → (gradeIn (replaceOut s k v) ≡ gradeIn s)
+    × (pathIn (replaceOut s k v) ≡ set (pathIn s) k v)
+    × (soundOf (replaceOut s k v) ≡ true)
+
+abbrev pub OneReplacing : Type 0
+OneReplacing = (s : List ℕ) (k : ℕ) (v : Vertex) (r q : Replaced) (o p : List ℕ) → Replaces s k v r o → Replaces s k v q p → (r ≡ q) × (o ≡ p)
+
+-- Demand 3 of a store: the bodies before k stay as they were, and so do those after j, the first vertex from k + 2 on that a drawn or broken step
+-- reaches, with the closing one, unless j is the last vertex.
+abbrev pub StoreKept : Type 0
+StoreKept = (s : List ℕ) (k : ℕ) (v : Vertex) → replaceReply s k v .0 ≡ 0
+    → (take k (bodiesIn (replaceOut s k v)) ≡ take k (bodiesIn s))
+    × (reachOf (pathIn s) k + 1 < length (pathIn s) → drop (reachOf (pathIn s) k + 1) (bodiesIn (replaceOut s k v)) ≡ drop (reachOf (pathIn s) k + 1) (bodiesIn s))

@@ -1,0 +1,99 @@
+// replace: another vertex in the path of a kept outline.
+use crate::Replaced;
+use checking::Checked;
+use checking::check;
+use contacts::Vertex;
+use contacts::limits::allowed;
+use keeping::Kept;
+use keeping::rewriting::rewrite;
+use outline::layout::EDGE;
+use outline::layout::ENTRY;
+use outline::layout::LEAST;
+use replies::Refusal;
+ghost use mathlib.Core.Path.{_≡_};
+ghost use mathlib.Core.List.{[], _∷_};
+ghost use Prim.Native.Nat.{_+_, _*_, _^_, _≤_};
+ghost use lib.ListN.{length};
+ghost use Rattle.whole.specs.Sizes.{Size};
+ghost use Rattle.runs.specs.Runs.{Runs, put};
+ghost use Rattle.contacts.specs.Bounds.{Inside};
+ghost use Rattle.paths.specs.Paths.{vertexNumbers};
+ghost use Rattle.keeping.specs.Keeping.{replyOfKept};
+ghost use Rattle.editing.specs.Replacing.{replyOfReplaced, Replaces};
+ghost use Rattle.editing.specs.Known.{Known};
+
+// A coordinate as it stands among a path's numbers.
+fn narrow(z: i64) -> i32
+    requires { ⌜ Size (2 ^ 28) z ⌝ }
+    ensures { λ r. ⌜ r ≡ z ⌝ }
+{
+    z as i32
+}
+
+// The vertex v as the k-th of a path.
+fn put_vertex(path: &mut [i32], k: usize, v: Vertex)
+    requires { ⌜ Inside v × (3 * k + 3 ≤ length (now path)) ⌝ }
+    ensures { λ _. ⌜ Runs put vertexNumbers (now (path .entry)) (3 * k) (v ∷ []) (now (path .exit)) (3 * k + 3) ⌝ }
+{
+    let x = narrow(v.x);
+    let y = narrow(v.y);
+    let radius = narrow(v.radius);
+    let at = 3 * k;
+    path[at] = x;
+    path[at + 1] = y;
+    path[at + 2] = radius;
+}
+
+// What writing came to, as replace answers it.
+fn replaced(k: Kept) -> Replaced
+    ensures { λ r. ⌜ replyOfReplaced r ≡ replyOfKept k ⌝ }
+{
+    match k {
+        Kept::Bytes(n) => Replaced::Bytes(n),
+        Kept::Refused(r) => Replaced::Refused(r),
+    }
+}
+
+// A store that passed its rows, its vertices at the front of `path`.
+pub fn change(
+    store: &mut [u8],
+    grade: u32,
+    n: usize,
+    m: usize,
+    index: usize,
+    v: Vertex,
+    path: &mut [i32],
+    own: &mut [i32],
+) -> Replaced
+    requires { ⌜ Known (now store) (now path) grade n m × (36908 ≤ length (now own)) ⌝ }
+    ensures { λ r. ⌜ Replaces (now (store .entry)) index v r (now (store .exit)) ⌝ }
+{
+    if n <= index {
+        return Replaced::Refused(Refusal::NoVertex(index));
+    }
+    if !allowed(v) {
+        return Replaced::Refused(Refusal::Outside(index));
+    }
+    put_vertex(path, index, v);
+    let numbers = 3 * n;
+    let old = LEAST + ENTRY * n + EDGE * m;
+    replaced(rewrite(&path[0..numbers], n, grade, old, own, store))
+}
+
+// replace with numbers of the caller's: for the store's path, and for a step's edges.
+pub fn replace_with(
+    store: &mut [u8],
+    index: usize,
+    v: Vertex,
+    path: &mut [i32],
+    own: &mut [i32],
+) -> Replaced
+    requires { ⌜ (12288 ≤ length (now path)) × (36908 ≤ length (now own)) ⌝ }
+    ensures { λ r. ⌜ Replaces (now (store .entry)) index v r (now (store .exit)) ⌝ }
+{
+    let checked = check(store, path, own);
+    match checked {
+        Checked::Refused(r) => Replaced::Refused(r),
+        Checked::Holds(h) => change(store, h.grade, h.n, h.m, index, v, path, own),
+    }
+}

@@ -1,0 +1,2 @@
+-- Document 01, "Chains": caps and joins.
+pub mod Joins

@@ -1,0 +1,73 @@
+-- An outline over lent bytes: zeros byte by byte, and the two outcomes of the room's test. Assumes nothing.
+use mathlib.Core.Path.{_≡_, refl, sym, ap, _∙_}
+use mathlib.Core.List.{List, _++_}
+use Prim.Native.Nat.{ℕ, suc, _+_, _-_, _≤_, _<_}
+use native.Mathlib.Nat.{zero-add}
+use native.Mathlib.Numerals.{add-one}
+use native.Mathlib.Omega.{arith}
+use lib.ListN.{length, set, replicate, length-append, length-replicate, length-set}
+use Rattle.runs.specs.Runs.{spread, over, Runs, put}
+use Rattle.runs.proofs.Laws.{over-append}
+use Rattle.runs.proofs.Written.{over-whole}
+use Rattle.paths.specs.Paths.{edgesOf}
+use Rattle.contacts.specs.declared.Vertex.{Vertex}
+use Rattle.outline.specs.Layout.{lengthOf}
+use Rattle.words.specs.Words.{fourBytes, bytesOf}
+use Rattle.outline.specs.Outlines.{outlineWords, outlineBytes}
+use Rattle.replies.specs.Refusals.{refusalOf}
+use Rattle.keeping.specs.Keeping.{replyOfKept}
+use Rattle.keeping.specs.Rewriting.{Rewrites}
+use Rattle.replies.specs.declared.Refusal.the-variants.{NoRoom}
+use Rattle.keeping.specs.declared.Kept.the-variants.{Bytes, Refused}
+use Rattle.outline.proofs.ReadBack.{outline-length}
+use Rattle.replies.proofs.Rows.{room-short, room-enough, refused-written, done-written}
+
+-- ---- zeros
+
+-- whoever clears from i on has cleared all from the start
+pub record Cleared (s₀ : List ℕ) (from : ℕ) (to : ℕ) (s : List ℕ) (i : ℕ) : Type 0 where
+  pub on : over put s₀ from (replicate (to - from) 0) ≡ over put s i (replicate (to - i) 0)
+  pub long : length s ≡ length s₀
+
+pub clear-start : {s : List ℕ} {from to : ℕ} → Cleared s from to s from
+clear-start = record { on = refl; long = refl }
+
+pub clear-step : {s₀ s s₁ : List ℕ} {from to i : ℕ} → Cleared s₀ from to s i → i < to → s₁ ≡ set s i 0 → Cleared s₀ from to s₁ (i + 1)
+unfolding over
+clear-step {s = s} {to = to} {i} h l e =
+    let k : to - i ≡ suc (to - (i + 1)) = omega arith in
+    record { on = h .on ∙ rw (k, e, add-one i); long = ap length e ∙ length-set s i 0 ∙ h .long }
+
+pub clear-end : {s₀ s : List ℕ} {from to i : ℕ} → Cleared s₀ from to s i → to ≤ i → s ≡ over put s₀ from (replicate (to - from) 0)
+unfolding over
+clear-end {to = to} {i} h l = let k : to - i ≡ 0 = omega arith in sym (h .on ∙ rw k)
+
+-- ---- the two outcomes
+
+pub needed-is : (g : ℕ) (vs : List Vertex) {n m : ℕ} → n ≡ length vs → m ≡ length (edgesOf g vs) → lengthOf n m ≡ length (outlineBytes g vs)
+needed-is g vs en em = omega (arith, outline-length g vs)
+
+pub rewrite-short : (s new : List ℕ) (old : ℕ) {needed : ℕ} → needed ≡ length new → length s < needed → Rewrites s new old (Refused (NoRoom needed)) s
+unfolding replyOfKept refusalOf
+rewrite-short s new old e h = record {
+  reply = ap (λ (k : ℕ). (5, k)) e ∙ sym (room-short (length new) (length s) (length new) _ (omega arith));
+  bytes = refused-written (NoRoom _) _ s refl;
+}
+
+pub rewrite-done : (g : ℕ) (vs : List Vertex) (s : List ℕ) (old : ℕ) {s₁ s₂ : List ℕ} {end : ℕ} → Runs put fourBytes s 0 (outlineWords g vs) s₁ end
+    → s₂ ≡ over put s₁ end (replicate (old - end) 0) → length (outlineBytes g vs) ≤ length s → old ≤ length s → Rewrites s (outlineBytes g vs) old (Bytes end) s₂
+unfolding replyOfKept outlineBytes bytesOf
+rewrite-done g vs s old {s₁} {s₂} {end} p q h o =
+    let new = spread fourBytes (outlineWords g vs) in
+    let e : end ≡ length new = p .pos ∙ zero-add (length new) in
+    let zeros = replicate {A = ℕ} (old - length new) 0 in
+    let n : length (new ++ zeros) ≤ length s = omega (arith, length-append new zeros, length-replicate {A = ℕ} (old - length new) 0) in
+    let w : s₂ ≡ over put s 0 (new ++ zeros) =
+    q ∙ ap (λ (l : List ℕ). over put l end (replicate (old - end) 0)) (p .out)
+    ∙ ap (λ (k : ℕ). over put (over put s 0 new) end (replicate (old - k) 0)) e
+    ∙ ap (λ (k : ℕ). over put (over put s 0 new) k zeros) (p .pos)
+    ∙ over-append put s 0 new zeros in
+    record {
+      reply = ap (λ (k : ℕ). (0, k)) e ∙ sym (room-enough (length new) (length s) (length new) _ h);
+      bytes = w ∙ over-whole s (new ++ zeros) n ∙ done-written end (new ++ zeros) s refl;
+    }

@@ -1,0 +1,33 @@
+-- Document 01, "Replies, tested in this order": keep, its answer and its promise.
+use mathlib.Core.List.{List, [], _∷_, _++_}
+use Prim.Native.Nat.{ℕ, _+_}
+use lib.IntN.{ℤ}
+use lib.ListN.{length}
+use Rattle.paths.specs.Paths.{pathOf}
+use Rattle.outline.specs.Outlines.{outlineBytes}
+use mathlib.Core.Path.{_≡_}
+use Rattle.replies.specs.Replies.{Reply, firstRow, roomRow, pathRows, written}
+use Rattle.keeping.specs.declared.Kept.{Kept}
+use Rattle.keeping.specs.declared.Kept.the-variants as kept
+use Rattle.replies.specs.Refusals.{refusalOf}
+
+-- ---- keep them as bytes
+
+unfoldable pub keepReply : List ℤ → ℕ → ℕ → Reply
+keepReply l g room =
+    let m = length (outlineBytes g (pathOf l)) in
+    firstRow (pathRows l g ++ (roomRow m room m ∷ [])) (0, m)
+
+unfoldable pub keepOut : List ℤ → ℕ → List ℕ → List ℕ
+keepOut l g room = written (keepReply l g (length room)) (outlineBytes g (pathOf l)) room
+
+unfoldable pub replyOfKept : Kept → Reply
+replyOfKept (kept.Bytes n) = (0, n)
+replyOfKept (kept.Refused r) = refusalOf r
+
+pub record Keeps (path : List ℤ) (grade : ℕ) (out₀ : List ℕ) (answer : Kept) (out₁ : List ℕ) : Type 0 where
+  pub reply : replyOfKept answer ≡ keepReply path grade (length out₀)
+  pub out : out₁ ≡ keepOut path grade out₀
+
+abbrev pub OneKeeping : Type 0
+OneKeeping = (path : List ℤ) (g : ℕ) (out : List ℕ) (r q : Kept) (o p : List ℕ) → Keeps path g out r o → Keeps path g out q p → (r ≡ q) × (o ≡ p)

@@ -1,0 +1,1 @@
+// How far a change reaches: no code.

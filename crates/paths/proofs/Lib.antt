@@ -1,0 +1,5 @@
+-- The crate's own laws.
+pub mod Most
+pub mod PathWalk
+pub mod Stands
+pub mod Reach

@@ -1,0 +1,4 @@
+-- The crate's own laws.
+pub mod KeptRead
+pub mod OneReading
+pub mod ReadAnswers

@@ -1,0 +1,42 @@
+// read: the path of a sound outline into lent numbers.
+use checking::Checked;
+use checking::Header;
+use checking::check;
+use checking::show_path;
+use replies::Refusal;
+ghost use Prim.Native.Nat.{_≤_};
+ghost use lib.ListN.{length};
+ghost use Rattle.reading.specs.Reading.{Reads};
+ghost use Rattle.checking.specs.StoreChecks.{Sound};
+
+// What reading an outline came to: how many vertices and which grade, or why not.
+pub enum Read {
+    Vertices(usize, u32),
+    Refused(Refusal),
+}
+
+// The path of a store that passed every shared row.
+fn read_path(s: &[u8], h: Header, out: &mut [i32]) -> Read
+    requires { ⌜ Sound (now s) h ⌝ }
+    ensures { λ r. ⌜ Reads (now (s .entry)) (now (out .entry)) r (now (out .exit)) ⌝ }
+{
+    let n = h.n;
+    let grade = h.grade;
+    if out.len() < 3 * n {
+        return Read::Refused(Refusal::NoRoom(n));
+    }
+    show_path(s, n, out);
+    Read::Vertices(n, grade)
+}
+
+// The path of a store, three numbers a vertex, into lent numbers; `path` and `own` are room to check it in.
+pub fn read_with(store: &[u8], out: &mut [i32], path: &mut [i32], own: &mut [i32]) -> Read
+    requires { ⌜ (12288 ≤ length (now path)) × (36908 ≤ length (now own)) ⌝ }
+    ensures { λ r. ⌜ Reads (now (store .entry)) (now (out .entry)) r (now (out .exit)) ⌝ }
+{
+    let checked = check(store, path, own);
+    match checked {
+        Checked::Refused(r) => Read::Refused(r),
+        Checked::Holds(h) => read_path(store, h, out),
+    }
+}

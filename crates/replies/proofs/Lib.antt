@@ -1,0 +1,4 @@
+-- The crate's own laws.
+pub mod OneOutcome
+pub mod PathChecks
+pub mod Rows

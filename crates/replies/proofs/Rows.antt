@@ -1,0 +1,81 @@
+-- Rows of replies: one list after another, what a refusal leaves in lent memory, and that the reply 0 means that every row failed. Assumes nothing.
+use mathlib.Core.Path.{_≡_, refl, sym, ap, _∙_}
+use mathlib.Core.Bool.{Bool, true, false, true≢false, _||_}
+use mathlib.Core.List.{List, [], _∷_, _++_}
+use Prim.Native.Nat.{ℕ, _+_, _≤_, _<_}
+use lib.ListN.{length, drop}
+use borrow.Author.Tests.{le-ltb, lt-ltb, eq-eqb}
+use Rattle.replies.specs.declared.Code.{Code}
+use Rattle.replies.specs.Replies.{Row, Reply, firstRow, roomRow, written}
+use lib.Dec.{eqb}
+use Rattle.replies.specs.Refusals.{refusalOf, Codes}
+use Rattle.replies.specs.declared.Refusal.{Refusal}
+use Rattle.replies.specs.declared.Refusal.the-variants.{NotTriples, TooMany, Grade, Outside, NoRoom, NotOutline, Kind, NotSound, NoVertex}
+
+abbrev pub NoneHold : List Row → Type 0
+NoneHold [] = Unit {0}
+NoneHold (row ∷ rows) = (row .0 ≡ false) × NoneHold rows
+
+pub first-skip : (rows more : List Row) (last : Reply) → NoneHold rows → firstRow (rows ++ more) last ≡ firstRow more last
+unfolding firstRow
+first-skip [] more last h = refl
+first-skip (row ∷ rows) more last h = rw (h .0, firstRow) (first-skip rows more last (h .1))
+
+-- rows after rows: where no earlier row holds the later ones reply
+pub rows-append : (rs qs : List Row) (last : Reply) → firstRow (rs ++ qs) last ≡ firstRow rs (firstRow qs last)
+unfolding firstRow
+rows-append [] qs last = refl
+rows-append (r ∷ rs) qs last = λ i. elim (r .0) [ true ↦ r .1 | false ↦ rows-append rs qs last i ]
+
+-- the row of the room lent
+pub room-short : (needed room number : ℕ) (last : Reply) → room < needed → firstRow (roomRow needed room number ∷ []) last ≡ (5, number)
+unfolding firstRow roomRow
+room-short needed room number last h = rw (lt-ltb room needed h, firstRow)
+
+pub room-enough : (needed room number : ℕ) (last : Reply) → needed ≤ room → firstRow (roomRow needed room number ∷ []) last ≡ last
+unfolding firstRow roomRow
+room-enough needed room number last h = rw (le-ltb room needed h, firstRow)
+
+-- a refusal's number is not 0, so lent memory stays; after 0 the result stands first
+pub refusal-some : (r : Refusal) → eqb (refusalOf r .0) 0 ≡ false
+unfolding refusalOf
+refusal-some (NotTriples n) = refl
+refusal-some (TooMany n) = refl
+refusal-some (Grade g) = refl
+refusal-some (Outside i) = refl
+refusal-some (NoRoom n) = refl
+refusal-some NotOutline = refl
+refusal-some (Kind k) = refl
+refusal-some (NotSound i) = refl
+refusal-some (NoVertex i) = refl
+
+pub refused-written {ℓ} : {A : Type ℓ} (r : Refusal) {reply : Reply} (made room : List A) → refusalOf r ≡ reply → room ≡ written reply made room
+unfolding written
+refused-written r {reply} made room e = let h : eqb (reply .0) 0 ≡ false = rw e at (refusal-some r) in rw (h, written)
+
+pub done-written {ℓ} : {A : Type ℓ} (n : ℕ) {reply : Reply} (made room : List A) → (0, n) ≡ reply → made ++ drop (length made) room ≡ written reply made room
+unfolding written
+done-written n {reply} made room e = rw (← e)
+
+-- ---- rows: each has a number other than 0, so the reply 0 says that none holds
+
+abbrev pub Coded : List Row → Type 0
+Coded [] = Unit {0}
+Coded (row ∷ rows) = (eqb (row .1 .0) 0 ≡ false) × Coded rows
+
+pub first-none : (rows : List Row) (last : Reply) → Coded rows → firstRow rows last .0 ≡ 0 → NoneHold rows
+unfolding firstRow
+first-none [] last e h = tt
+first-none (row ∷ rows) last e h = go (row .0) refl h (first-none rows last (e .1))
+  where
+    go : (x : Bool) → row .0 ≡ x → (elim x as (λ _. Reply) [ true ↦ row .1 | false ↦ firstRow rows last ]) .0 ≡ 0 → (firstRow rows last .0 ≡ 0 → NoneHold rows) → (row .0 ≡ false) × NoneHold rows
+    go true f k r = absurd (true≢false (sym (eq-eqb (row .1 .0) 0 k) ∙ e .0))
+    go false f k r = (f, r k)
+
+pub either : (a b : Bool) → (a || b) ≡ false → (a ≡ false) × (b ≡ false)
+either true b e = absurd (true≢false e)
+either false b e = (refl, e)
+
+-- a reply and number from what the code has put into them
+pub coded-told : {c : Code} {a n : ℕ} {t : Reply} → (a, n) ≡ t → (c .reply ≡ a) × (c .number ≡ n) → Codes c t
+coded-told e h = record { reply = h .0 ∙ ap (λ (x : Reply). x .0) e; number = h .1 ∙ ap (λ (x : Reply). x .1) e }

@@ -1,0 +1,137 @@
+-- `replies::refusals::code` meets its contract: each refusal has its number. Assumes nothing.
+use mathlib.Core.Path.{sym, ap}
+use borrow.Author.Needs.{needs}
+use Rattle.replies.specs.Refusals.{refusalOf}
+use Rattle.replies.proofs.Rows.{coded-told}
+use Rattle.replies.proofs.refusals.code.Statement.{statement}
+use Rattle.replies.proofs.refusals.code.Tie as tie
+
+enum-known-r : tie.Need-enum-known-r
+enum-known-r c = search needs
+
+coded-requires : tie.Need-coded-requires
+coded-requires c κs = search needs
+
+enum-known-r-2 : tie.Need-enum-known-r-2
+enum-known-r-2 c = search needs
+
+coded-requires-2 : tie.Need-coded-requires-2
+coded-requires-2 c κs = search needs
+
+enum-known-r-3 : tie.Need-enum-known-r-3
+enum-known-r-3 c = search needs
+
+cast-coded : tie.Need-cast-coded
+cast-coded c = search needs
+
+coded-requires-3 : tie.Need-coded-requires-3
+coded-requires-3 c κs = search needs
+
+enum-known-r-4 : tie.Need-enum-known-r-4
+enum-known-r-4 c = search needs
+
+coded-requires-4 : tie.Need-coded-requires-4
+coded-requires-4 c κs = search needs
+
+enum-known-r-5 : tie.Need-enum-known-r-5
+enum-known-r-5 c = search needs
+
+coded-requires-5 : tie.Need-coded-requires-5
+coded-requires-5 c κs = search needs
+
+enum-told : tie.Need-enum-told
+enum-told c = search needs
+
+coded-requires-6 : tie.Need-coded-requires-6
+coded-requires-6 c κs = search needs
+
+enum-known-r-6 : tie.Need-enum-known-r-6
+enum-known-r-6 c = search needs
+
+cast-coded-2 : tie.Need-cast-coded-2
+cast-coded-2 c = search needs
+
+coded-requires-7 : tie.Need-coded-requires-7
+coded-requires-7 c κs = search needs
+
+enum-known-r-7 : tie.Need-enum-known-r-7
+enum-known-r-7 c = search needs
+
+coded-requires-8 : tie.Need-coded-requires-8
+coded-requires-8 c κs = search needs
+
+enum-known-r-8 : tie.Need-enum-known-r-8
+enum-known-r-8 c = search needs
+
+coded-requires-9 : tie.Need-coded-requires-9
+coded-requires-9 c κs = search needs
+
+returns : tie.Need-returns
+unfolding refusalOf
+returns c = coded-told (ap refusalOf (sym (c .before .before .r .given .1))) (c .coded .ensures)
+
+returns-2 : tie.Need-returns-2
+unfolding refusalOf
+returns-2 c = coded-told (ap refusalOf (sym (c .before .before .r2 .given .1))) (c .coded2 .ensures)
+
+returns-3 : tie.Need-returns-3
+unfolding refusalOf
+returns-3 c = coded-told (ap refusalOf (sym (c .before .before .r3 .given .1))) (c .coded3 .ensures)
+
+returns-4 : tie.Need-returns-4
+unfolding refusalOf
+returns-4 c = coded-told (ap refusalOf (sym (c .before .before .r4 .given .1))) (c .coded4 .ensures)
+
+returns-5 : tie.Need-returns-5
+unfolding refusalOf
+returns-5 c = coded-told (ap refusalOf (sym (c .before .before .r5 .given .1))) (c .coded5 .ensures)
+
+returns-6 : tie.Need-returns-6
+unfolding refusalOf
+returns-6 c = coded-told (ap refusalOf (sym (c .before .enum-told .given .1))) (c .coded6 .ensures)
+
+returns-7 : tie.Need-returns-7
+unfolding refusalOf
+returns-7 c = coded-told (ap refusalOf (sym (c .before .before .r6 .given .1))) (c .coded7 .ensures)
+
+returns-8 : tie.Need-returns-8
+unfolding refusalOf
+returns-8 c = coded-told (ap refusalOf (sym (c .before .before .r7 .given .1))) (c .coded8 .ensures)
+
+returns-9 : tie.Need-returns-9
+unfolding refusalOf
+returns-9 c = coded-told (ap refusalOf (sym (c .before .before .r8 .given .1))) (c .coded9 .ensures)
+
+pub code-spec : {M : Type 1} → statement M
+code-spec =
+    tie.close
+    (tie.spec
+    enum-known-r
+    coded-requires
+    enum-known-r-2
+    coded-requires-2
+    enum-known-r-3
+    cast-coded
+    coded-requires-3
+    enum-known-r-4
+    coded-requires-4
+    enum-known-r-5
+    coded-requires-5
+    enum-told
+    coded-requires-6
+    enum-known-r-6
+    cast-coded-2
+    coded-requires-7
+    enum-known-r-7
+    coded-requires-8
+    enum-known-r-8
+    coded-requires-9
+    returns
+    returns-2
+    returns-3
+    returns-4
+    returns-5
+    returns-6
+    returns-7
+    returns-8
+    returns-9)

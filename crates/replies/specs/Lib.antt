@@ -1,0 +1,4 @@
+-- What the contracts cite.
+pub mod Checks
+pub mod Refusals
+pub mod Replies

@@ -1,0 +1,22 @@
+// Why a call is refused, and the rows that several calls share.
+pub mod path_rows;
+pub mod refusals;
+
+// Why a call is refused, each with the number that goes beside its reply. They are appended, never renumbered.
+pub enum Refusal {
+    NotTriples(usize),
+    TooMany(usize),
+    Grade(u32),
+    Outside(usize),
+    NoRoom(usize),
+    NotOutline,
+    Kind(u32),
+    NotSound(usize),
+    NoVertex(usize),
+}
+
+// A reply, and the number with it.
+pub struct Code {
+    pub reply: u32,
+    pub number: u64,
+}

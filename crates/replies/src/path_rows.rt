@@ -1,0 +1,35 @@
+// The rows that draw and keep share: is this a path, at a grade, within the limits?
+use crate::Refusal;
+use paths::paths::first_outside;
+ghost use Rattle.replies.specs.Checks.{PathSays};
+
+// What the rows of a path came to: how many vertices it has, or why it is refused.
+pub enum PathCheck {
+    Passed(usize),
+    Refused(Refusal),
+}
+
+// Every row of a path, in order.
+pub fn check_path(path: &[i32], grade: u32) -> PathCheck
+    ensures { λ r. ⌜ PathSays (now (path .entry)) grade r ⌝ }
+{
+    let m = path.len();
+    if m % 3 != 0 {
+        return PathCheck::Refused(Refusal::NotTriples(m));
+    }
+    if grade < 1 {
+        return PathCheck::Refused(Refusal::Grade(grade));
+    }
+    if 8 < grade {
+        return PathCheck::Refused(Refusal::Grade(grade));
+    }
+    let n = m / 3;
+    if 4096 < n {
+        return PathCheck::Refused(Refusal::TooMany(n));
+    }
+    let bad = first_outside(path, n);
+    if bad < n {
+        return PathCheck::Refused(Refusal::Outside(bad));
+    }
+    PathCheck::Passed(n)
+}

@@ -1,0 +1,25 @@
+-- The marked examples: both sides of the claim are computed. Assumes nothing.
+use mathlib.Core.Path.{refl}
+use lib.Count.{leadingZeros}
+use Rattle.runs.specs.Runs.{spread}
+use Rattle.number.specs.Root.{correctedOf, rootIn, rootOf, rootUpOf}
+use Rattle.number.specs.MulDiv.{nearestOf, roundedOf, mulDivOf}
+use Rattle.plane.specs.Vectors.{sameNumber, samePoint, fromTo, crossOf, dotOf, squareOf}
+use Rattle.plane.specs.Directions.{partOf, componentOf, directionOf, stepOf, rotatedOf, scaledOf}
+use Rattle.turning.specs.Edges.{edgeNumbers, edgeOf}
+use Rattle.turning.specs.Arcs.{sweepOf, isMajor, emptyOf, fullOf, ringOf, nearOf, stopsOf, turnsOf, sweptOf, eastOf, westOf, circleOf, arcOf}
+use Rattle.contacts.specs.Limits.{allowedOf, firstOutside}
+use Rattle.contacts.specs.Contacts.{centreOf, lineOf, deltaOf, shiftOf, tangentOf, numeratorOf, contactOf, sideOf, trendOf, sectionOf, largerOf, brokenOf, kindOf}
+use Rattle.contacts.specs.Covering.{turnOf, inwardOf, insideOf, coversOf, coveredOf}
+use Rattle.joins.specs.Joins.{innerOf, arcAbout, startChoice, startCap, endChoice, endCap, alongOf, bendOf, leftTurns, leftJoin, rightTurns, rightJoin, sameCentre, gapOf, joinOf}
+use Rattle.variable_stroke.specs.Chains.{freshOf, bothButt, loneOf, finishLast, finishOf, meetLast, drawnOf, breakEnd, breakStart, leaveEdges, leaveChain, leaveClosing, markedOf, emittedOf, nextChain, nextLast, nextClosing, nextOf, startOf}
+use Rattle.paths.specs.Paths.{pathOf, bodiesFrom, bodiesAt, bodiesOf, joined, edgesOf}
+use Rattle.words.specs.Words.{wordOf, wordsOf, fourBytes, bytesOf}
+use Rattle.outline.specs.Outlines.{headerOf, entryOf, tableOf, bodyWords, wordsWith, outlineWords, outlineBytes}
+use Rattle.replies.specs.Replies.{firstRow, triplesRow, gradeRow, countRow, outsideRow, roomRow, pathRows}
+use Rattle.drawing.specs.Drawing.{drawReply}
+use Rattle.theorems.specs.Examples.{ExamplesHold, minus, plain, bytes, words, lengths, counts, edges, reply, examples, further, answersOf, answersTold}
+
+pub examples-hold : ExamplesHold
+unfolding leadingZeros spread correctedOf rootIn rootOf rootUpOf nearestOf roundedOf mulDivOf sameNumber samePoint fromTo crossOf dotOf squareOf partOf componentOf directionOf stepOf rotatedOf scaledOf edgeNumbers edgeOf sweepOf isMajor emptyOf fullOf ringOf nearOf stopsOf turnsOf sweptOf eastOf westOf circleOf arcOf allowedOf firstOutside centreOf lineOf deltaOf shiftOf tangentOf numeratorOf contactOf sideOf trendOf sectionOf largerOf brokenOf kindOf turnOf inwardOf insideOf coversOf coveredOf innerOf arcAbout startChoice startCap endChoice endCap alongOf bendOf leftTurns leftJoin rightTurns rightJoin sameCentre gapOf joinOf freshOf bothButt loneOf finishLast finishOf meetLast drawnOf breakEnd breakStart leaveEdges leaveChain leaveClosing markedOf emittedOf nextChain nextLast nextClosing nextOf startOf bodiesFrom bodiesAt bodiesOf joined edgesOf wordOf wordsOf fourBytes bytesOf headerOf entryOf tableOf bodyWords wordsWith outlineWords outlineBytes pathOf firstRow triplesRow gradeRow countRow outsideRow roomRow pathRows drawReply minus plain bytes words lengths counts edges reply examples further answersOf answersTold
+examples-hold = refl

@@ -1,0 +1,154 @@
+-- The theorems through the calls: after the reply 0 no row held, so what stands in lent bytes is an outline within the limits, and what is known of
+-- outlines holds of it. Assumes nothing.
+use mathlib.Core.Path.{_≡_, refl, sym, ap, _∙_}
+use mathlib.Core.Bool.{true}
+use mathlib.Core.List.{List, [], _∷_, _++_, append-assoc, append-nil}
+use Prim.Native.Nat.{ℕ, _+_, _-_, _*_, _%_, _≤_, _<_}
+use native.Mathlib.Nat.{le-antisymm}
+use native.Mathlib.Omega.{arith}
+use borrow.Author.Tests.{eqb-true, ltb-false, leb-false, not-false}
+use lib.IntN.{ℤ}
+use lib.ListN.{length, getD, take, drop, set, replicate, take-append-drop, length-append, length-replicate, length-set}
+use lib.Seq.{getD-take, getD-drop, take-at, drop-at}
+use Rattle.runs.specs.Runs.{spread}
+use Rattle.locality.specs.Local.{reachOf}
+use Rattle.paths.specs.Paths.{pathOf, vertexNumbers, pathNumbers, Within}
+use Rattle.contacts.specs.declared.Vertex.{Vertex}
+use Rattle.turning.specs.declared.Edge.{Edge}
+use Rattle.words.specs.Words.{bytesOf}
+use Rattle.outline.specs.Outlines.{bodyWords, outlineBytes}
+use Rattle.outline.specs.Stores.{gradeIn, lengthIn, pathIn, dueIn, bodiesIn, soundOf, bodyBytesIn}
+use Rattle.replies.specs.Replies.{Reply, Row, firstRow, triplesRow, gradeRow, countRow, outsideRow, roomRow, indexRow, pathRows, written}
+use Rattle.checking.specs.StoreRows.{storeRows}
+use Rattle.keeping.specs.Keeping.{keepReply, keepOut}
+use Rattle.editing.specs.Replacing.{replacedOf, replaceReply, replaceOut}
+use Rattle.theorems.specs.Theorems.{KeepRead, ReplacedIsKept, BytesKept, NumberKeeps}
+use Rattle.outline.specs.Theorems.{BodyBytes}
+use Rattle.replies.proofs.Rows.{NoneHold, first-skip, first-none, either, rows-append, room-enough, done-written}
+use Rattle.reading.proofs.KeptRead.{kept-is-read}
+use Rattle.outline.proofs.ReadBack.{numbers-count}
+use Rattle.contacts.proofs.Allowed.{outside-most}
+use Rattle.editing.proofs.Changed.{replace-none, within-store, within-set, sound-store, out-is, replaced-is-sound, store-kept}
+use Rattle.checking.proofs.Shown.{path-back}
+use Rattle.editing.proofs.NewVertex.{numbers-fit}
+use Rattle.checking.proofs.FirstByte.{same-is}
+use Rattle.outline.proofs.BodiesInBytes.{body-bytes}
+use Rattle.reaching.proofs.TheNumber.{number-is, lesser}
+
+-- ---- the bytes of a body in a sound store
+
+-- a sound store begins with what is due
+sound-begins : (s : List ℕ) → soundOf s ≡ true → s ≡ outlineBytes (gradeIn s) (pathIn s) ++ drop (lengthIn s) s
+unfolding soundOf dueIn
+sound-begins s e = sym (take-append-drop (lengthIn s) s) ∙ ap (λ (l : List ℕ). l ++ drop (lengthIn s) s) (same-is (take (lengthIn s) s) (dueIn s) e)
+
+pub body-bytes-in : BodyBytes
+unfolding bodiesIn
+body-bytes-in s i w e l = ap (λ (x : List ℕ). bodyBytesIn x i) (sound-begins s e) ∙ body-bytes (gradeIn s) (pathIn s) (drop (lengthIn s) s) w i l
+
+module _ (s : List ℕ) (k : ℕ) (v : Vertex) (h : replaceReply s k v .0 ≡ 0) where
+  -- where a body stays, its bytes do
+  bytes-stay : (i : ℕ) → i ≤ length (pathIn s) → getD (bodiesIn (replaceOut s k v)) i [] ≡ getD (bodiesIn s) i [] → bodyBytesIn (replaceOut s k v) i ≡ bodyBytesIn s i
+  bytes-stay i l e =
+      let r = replaced-is-sound s k v h in
+      let w : Within (gradeIn (replaceOut s k v)) (pathIn (replaceOut s k v)) = rw (r .0, r .1) (within-set s k v h) in
+      let n : i ≤ length (pathIn (replaceOut s k v)) = rw (r .1, length-set (pathIn s) k v) l in
+      body-bytes-in (replaceOut s k v) i w (r .2) n
+      ∙ ap (λ (es : List Edge). bytesOf (bodyWords es)) e
+      ∙ sym (body-bytes-in s i (within-store s k v h) (sound-store s k v h) l)
+
+pub bytes-kept : BytesKept
+unfolding storeRows indexRow
+bytes-kept s k v h =
+    let kept = store-kept s k v h in
+    let old = bodiesIn s in
+    let new = bodiesIn (replaceOut s k v) in
+    let few : k < length (pathIn s) = leb-false _ _ (replace-none s k v h .1 .1 .1 .1 .1 .1 .1 .0) in (
+      λ i l. bytes-stay s k v h i (omega arith) (sym (getD-take k new i [] l) ∙ ap (λ (bs : List (List Edge)). getD bs i []) (kept .0) ∙ getD-take k old i [] l),
+      λ far i l m.
+          let j = reachOf (pathIn s) k + 1 in
+          let e : j + (i - j) ≡ i = omega arith in
+          bytes-stay s k v h i m
+          (ap (λ (n : ℕ). getD new n []) (sym e) ∙ sym (getD-drop j new (i - j) []) ∙ ap (λ (bs : List (List Edge)). getD bs (i - j) []) (kept .1 far) ∙ getD-drop j old (i - j) [] ∙ ap (λ (n : ℕ). getD old n []) e),
+    )
+
+-- ---- what keep wrote
+
+numbers-back : (l : List ℤ) → length l % 3 ≡ 0 → pathNumbers (pathOf l) ≡ l
+unfolding pathOf pathNumbers vertexNumbers spread
+numbers-back [] h = refl
+numbers-back (x ∷ []) h = absurd (omega arith)
+numbers-back (x ∷ y ∷ []) h = absurd (omega arith)
+numbers-back (x ∷ y ∷ r ∷ l) h = ap (λ (m : List ℤ). x ∷ y ∷ r ∷ m) (numbers-back l (omega arith))
+
+module _ (path : List ℤ) (g room : ℕ) (h : keepReply path g room .0 ≡ 0) where
+  keep-none : NoneHold (pathRows path g ++ (roomRow (length (outlineBytes g (pathOf path))) room (length (outlineBytes g (pathOf path))) ∷ []))
+  unfolding keepReply pathRows triplesRow gradeRow countRow outsideRow roomRow
+  keep-none = first-none _ _ (refl, (refl, (refl, (refl, (refl, tt))))) h
+
+  keep-triples : length path % 3 ≡ 0
+  unfolding pathRows triplesRow
+  keep-triples = eqb-true _ _ (not-false _ (keep-none .0))
+
+  keep-within : Within g (pathOf path)
+  unfolding pathRows gradeRow countRow outsideRow
+  keep-within =
+      let r = keep-none in
+      let e = either _ _ (r .1 .0) in
+      record { low = ltb-false _ _ (e .0); high = ltb-false _ _ (e .1); count = ltb-false _ _ (r .1 .1 .0); inside = le-antisymm (outside-most (pathOf path)) (ltb-false _ _ (r .1 .1 .1 .0)) }
+
+keep-out : (path : List ℤ) (g : ℕ) (out : List ℕ) → keepReply path g (length out) .0 ≡ 0 → keepOut path g out ≡ outlineBytes g (pathOf path) ++ drop (length (outlineBytes g (pathOf path))) out
+unfolding keepOut written
+keep-out path g out h = rw (h, written)
+
+pub keep-read : KeepRead
+keep-read path g out room h l =
+    let vs = pathOf path in
+    let b : pathNumbers vs ≡ path = numbers-back path (keep-triples path g (length out) h) in
+    let n : 3 * length vs ≤ length room = omega (arith, numbers-count vs, ap length b) in
+    let r = kept-is-read g vs (drop (length (outlineBytes g vs)) out) room (keep-within path g (length out) h) n in
+    rw (keep-out path g out h) (r .0, r .1, rw b at (r .2))
+
+-- ---- a replaced store and keep
+
+-- where no row held the reply is the last word
+none-last : (rows : List Row) (last : Reply) → NoneHold rows → firstRow rows last ≡ last
+unfolding firstRow
+none-last rows last h = ap (λ (rs : List Row). firstRow rs last) (sym (append-nil rows)) ∙ first-skip rows [] last h
+
+replaced-long : (s : List ℕ) (k : ℕ) (v : Vertex) {m : ℕ} → replaceReply s k v ≡ (0, m) → m ≡ length (replacedOf s k v)
+unfolding replaceReply
+replaced-long s k v e = ap (λ (r : Reply). r .1) (sym e ∙ none-last _ _ (replace-none s k v (ap (λ (r : Reply). r .0) e)))
+
+pub replaced-is-kept : ReplacedIsKept
+unfolding keepReply keepOut replacedOf
+replaced-is-kept s k v room m z h e l =
+    let h₀ : replaceReply s k v .0 ≡ 0 = ap (λ (r : Reply). r .0) h in
+    let g = gradeIn s in
+    let vs = set (pathIn s) k v in
+    let path = pathNumbers vs in
+    let new = replacedOf s k v in
+    let zeros = replicate {A = ℕ} z 0 in
+    let n : length new ≡ m = sym (replaced-long s k v h) in
+    let p : pathOf path ≡ vs = path-back vs in
+    let fit = numbers-fit g vs path refl refl (within-set s k v h₀) in
+    let kr : keepReply path g (length room) ≡ (0, m) =
+    rows-append (pathRows path g) _ _ ∙ fit .passed _ ∙ rw p (room-enough (length new) (length room) (length new) (0, length new) (omega arith) ∙ ap (λ (x : ℕ). (0, x)) n) in
+    let ko : keepOut path g room ≡ new ++ drop (length new) room = sym (done-written m (outlineBytes g (pathOf path)) room (sym kr)) ∙ rw p refl in
+    let ro : replaceOut s k v ≡ new ++ (zeros ++ drop (length (new ++ zeros)) s) = rw (e, ← n) (out-is s k v h₀) in
+    let q : length (new ++ zeros) ≡ m + z = omega (arith, length-append new zeros, length-replicate {A = ℕ} z 0) in (
+      kr,
+      ap (take m) ro ∙ take-at new _ m n ∙ sym (ap (take m) ko ∙ take-at new _ m n),
+      ap (λ (x : List ℕ). take z (drop m x)) ro ∙ ap (take z) (drop-at new _ m n) ∙ take-at zeros _ z (length-replicate {A = ℕ} z 0),
+      ap (drop (m + z)) (ro ∙ sym (append-assoc new zeros _)) ∙ drop-at (new ++ zeros) _ (m + z) q ∙ ap (λ (x : ℕ). drop x s) q,
+    )
+
+pub number-keeps : NumberKeeps
+number-keeps s k j v e h =
+    let kept = bytes-kept s k v h in (
+      kept .0,
+      λ l i m n.
+          let f = number-is s k j e in
+          let r : j ≡ reachOf (pathIn s) k = f ∙ lesser (pathIn s) k .2 (omega arith) in
+          kept .1 (omega arith) i (omega arith) n,
+    )

@@ -1,0 +1,44 @@
+-- Theorems over several calls: what is kept is read back, what is replaced is what keep writes, and how far a change reaches in bytes.
+use mathlib.Core.Path.{_≡_}
+use mathlib.Core.List.{List, _++_}
+use Prim.Native.Nat.{ℕ, _+_, _-_, _≤_, _<_}
+use lib.IntN.{ℤ}
+use lib.ListN.{length, take, drop, set, replicate}
+use Rattle.paths.specs.Paths.{pathOf, pathNumbers}
+use Rattle.locality.specs.Local.{reachOf}
+use Rattle.contacts.specs.declared.Vertex.{Vertex}
+use Rattle.outline.specs.Stores.{gradeIn, lengthIn, pathIn, bodyBytesIn}
+use Rattle.keeping.specs.Keeping.{keepReply, keepOut}
+use Rattle.reading.specs.Reading.{readReply, readGrade, readOut}
+use Rattle.editing.specs.Replacing.{replaceReply, replaceOut}
+use Rattle.reaching.specs.Replies.{reachReply}
+
+-- What keep wrote, read accepts and gives back, number for number, with the grade.
+abbrev pub KeepRead : Type 0
+KeepRead = (path : List ℤ) (g : ℕ) (out : List ℕ) (room : List ℤ) → keepReply path g (length out) .0 ≡ 0 → length path ≤ length room
+    → (readReply (keepOut path g out) (length room) ≡ (0, length (pathOf path)))
+    × (readGrade (keepOut path g out) (length room) ≡ g)
+    × (readOut (keepOut path g out) room ≡ path ++ drop (length path) room)
+
+-- A store in which a vertex was replaced begins with the bytes that keep writes for the path with that vertex; then come zeros up to the old
+-- end; and past both the store is as it was. Here m is the new outline's length, and z how many zeros there are.
+abbrev pub ReplacedIsKept : Type 0
+ReplacedIsKept = (s : List ℕ) (k : ℕ) (v : Vertex) (room : List ℕ) (m z : ℕ) → replaceReply s k v ≡ (0, m) → z ≡ lengthIn s - m → m ≤ length room
+    → (keepReply (pathNumbers (set (pathIn s) k v)) (gradeIn s) (length room) ≡ (0, m))
+    × (take m (replaceOut s k v) ≡ take m (keepOut (pathNumbers (set (pathIn s) k v)) (gradeIn s) room))
+    × (take z (drop m (replaceOut s k v)) ≡ replicate z 0)
+    × (drop (m + z) (replaceOut s k v) ≡ drop (m + z) s)
+
+-- Demand 3 over the bytes of the store before and after: those of each body before k stay as they were; and so do those of each body after j, the
+-- closing one too, unless j is the last vertex.
+abbrev pub BytesKept : Type 0
+BytesKept = (s : List ℕ) (k : ℕ) (v : Vertex) → replaceReply s k v .0 ≡ 0
+    → ((i : ℕ) → i < k → bodyBytesIn (replaceOut s k v) i ≡ bodyBytesIn s i)
+    × (reachOf (pathIn s) k + 1 < length (pathIn s) → (i : ℕ) → reachOf (pathIn s) k < i → i ≤ length (pathIn s) → bodyBytesIn (replaceOut s k v) i ≡ bodyBytesIn s i)
+
+-- Demand 3 by the number j that the call gives: where a vertex k is then replaced, the bytes of each body before k stay as they were; and so do those
+-- of each body after j, the closing one too, unless j is the last vertex or there is none.
+abbrev pub NumberKeeps : Type 0
+NumberKeeps = (s : List ℕ) (k j : ℕ) (v : Vertex) → reachReply s k ≡ (0, j) → replaceReply s k v .0 ≡ 0
+    → ((i : ℕ) → i < k → bodyBytesIn (replaceOut s k v) i ≡ bodyBytesIn s i)
+    × (j + 1 < length (pathIn s) → (i : ℕ) → j < i → i ≤ length (pathIn s) → bodyBytesIn (replaceOut s k v) i ≡ bodyBytesIn s i)

@@ -1,0 +1,1 @@
+// Theorems over several calls, and the marked examples: no code.

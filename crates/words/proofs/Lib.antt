@@ -1,0 +1,4 @@
+-- The crate's own laws.
+pub mod Bytes
+pub mod NumberRuns
+pub mod OneWord
