@@ -98,11 +98,8 @@ module _ (s : List ℕ) (g : ℕ) (vs : List Vertex) where
 
 -- where the bodies that are due end, so does the outline
 module _ {s : List ℕ} (g : ℕ) (vs : List Vertex) {c : Compared} (q : Agrees s g vs c) where
-  pub end-edges : {n : ℕ} → n ≡ length vs → (c .end - (frontBytes n)) / 16 ≡ length (edgesOf g vs)
-  end-edges e = omega (arith, q .bodies .pos, bodies-bytes g vs)
-
-  pub end-past : {n : ℕ} → n ≡ length vs → frontBytes n ≤ c .end
-  end-past e = omega (arith, q .bodies .pos)
+  pub end-edges : {n b : ℕ} → n ≡ length vs → b ≡ frontBytes n → (c .end - b) / 16 ≡ length (edgesOf g vs)
+  end-edges e f = omega (arith, q .bodies .pos, bodies-bytes g vs)
 
   pub end-is : c .end ≡ length (outlineBytes g vs)
   end-is = omega (arith, q .bodies .pos, bodies-bytes g vs, outline-length g vs)

@@ -2,7 +2,7 @@
 use contacts::Vertex;
 use outline::layout::ENTRY;
 use outline::layout::HEADER;
-use outline::layout::LEAST;
+use outline::layout::front;
 use paths::paths::vertex;
 use plane::Vector;
 use plane::direction::step;
@@ -93,7 +93,7 @@ pub fn compare(path: &[i32], n: usize, grade: u32, own: &mut [i32], s: &[u8]) ->
     requires { ⌜ (n ≡ length (pathOf (now path))) × Within grade (pathOf (now path)) × (36908 ≤ length (now own)) ⌝ }
     ensures { λ r. ⌜ Agrees (now (s .entry)) grade (pathOf (now (path .entry))) r ⌝ }
 {
-    let base = LEAST + ENTRY * n;
+    let base = front(n);
     if n == 0 {
         let none = same_word(s, HEADER, HEADER, 0);
         return Compared {

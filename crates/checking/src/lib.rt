@@ -2,13 +2,14 @@
 use crate::compare::Compared;
 use crate::compare::compare;
 use outline::layout::EDGE;
-use outline::layout::ENTRY;
 use outline::layout::ENTRY_WORDS;
 use outline::layout::FIRST_EDITION;
 use outline::layout::HEADER;
 use outline::layout::HEADER_WORDS;
 use outline::layout::LEAST;
 use outline::layout::STROKE_KIND;
+use outline::layout::front;
+use outline::layout::whole_length;
 use paths::paths::first_outside;
 use replies::Refusal;
 use words::same_word;
@@ -68,7 +69,7 @@ pub fn head_rows(s: &[u8]) -> Checked
         return Checked::Refused(Refusal::TooMany(n));
     }
     let m = word_at(s, 4) as usize;
-    if s.len() < LEAST + ENTRY * n + EDGE * m {
+    if s.len() < whole_length(n, m) {
         return Checked::Refused(Refusal::NotOutline);
     }
     let h = Header {
@@ -111,7 +112,7 @@ fn first_difference(path: &[i32], s: &[u8], grade: u32, n: usize, c: Compared) -
     requires { ⌜ (n ≡ length (pathOf (now path))) × (n ≤ 4096) × Agrees (now s) grade (pathOf (now path)) c ⌝ }
     ensures { λ r. ⌜ r ≡ firstDiffering (now (s .entry)) (outlineBytes grade (pathOf (now (path .entry)))) ⌝ }
 {
-    let base = LEAST + ENTRY * n;
+    let base = front(n);
     let m = (c.end - base) / EDGE;
     let a = same_word(s, 0, 0, FIRST_EDITION);
     let b = same_word(s, a, 4, STROKE_KIND);

@@ -6,9 +6,7 @@ use contacts::Vertex;
 use contacts::limits::allowed;
 use keeping::Kept;
 use keeping::rewriting::rewrite;
-use outline::layout::EDGE;
-use outline::layout::ENTRY;
-use outline::layout::LEAST;
+use outline::layout::whole_length;
 use replies::Refusal;
 ghost use mathlib.Core.Path.{_≡_};
 ghost use mathlib.Core.List.{[], _∷_};
@@ -76,7 +74,7 @@ pub fn change(
     }
     put_vertex(path, index, v);
     let numbers = 3 * n;
-    let old = LEAST + ENTRY * n + EDGE * m;
+    let old = whole_length(n, m);
     replaced(rewrite(&path[0..numbers], n, grade, old, own, store))
 }
 

@@ -44,8 +44,8 @@ clear-end {to = to} {i} h l = let k : to - i ≡ 0 = omega arith in sym (h .on �
 
 -- ---- the two outcomes
 
-pub needed-is : (g : ℕ) (vs : List Vertex) {n m : ℕ} → n ≡ length vs → m ≡ length (edgesOf g vs) → lengthOf n m ≡ length (outlineBytes g vs)
-needed-is g vs en em = omega (arith, outline-length g vs)
+pub needed-is : (g : ℕ) (vs : List Vertex) {n m needed : ℕ} → n ≡ length vs → m ≡ length (edgesOf g vs) → needed ≡ lengthOf n m → needed ≡ length (outlineBytes g vs)
+needed-is g vs en em e = omega (arith, outline-length g vs)
 
 pub rewrite-short : (s new : List ℕ) (old : ℕ) {needed : ℕ} → needed ≡ length new → length s < needed → Rewrites s new old (Refused (NoRoom needed)) s
 unfolding replyOfKept refusalOf

@@ -27,10 +27,10 @@ header-bytes g n m = refl
 
 -- ---- a path without vertices
 
-pub fill-none : (g : ℕ) (vs : List Vertex) {l l′ : List ℕ} {b e : ℕ} → length vs ≡ 0 → Runs put fourBytes l headerBytes (0 ∷ []) l′ e
-    → Both l headerBytes (tableOf vs (bodiesOf g vs)) b (bodyWords (edgesOf g vs)) l′ b
+pub fill-none : (g : ℕ) (vs : List Vertex) {l l′ : List ℕ} {b e r : ℕ} → length vs ≡ 0 → r ≡ b → Runs put fourBytes l headerBytes (0 ∷ []) l′ e
+    → Both l headerBytes (tableOf vs (bodiesOf g vs)) b (bodyWords (edgesOf g vs)) l′ r
 unfolding bodiesOf edgesOf spread over
-fill-none g vs h p = both-as (table-none (stepOf g) vs h) (bodies-none (stepOf g) vs h) (record { out = p .out; pos = omega arith })
+fill-none g vs h k p = both-as (table-none (stepOf g) vs h) (bodies-none (stepOf g) vs h) (record { out = p .out; pos = omega arith })
 
 -- ---- a path with vertices: a is the first, w the walk there and t the step
 
@@ -43,15 +43,15 @@ module _ (g : ℕ) (vs : List Vertex) {a : Vertex} {w : Walk} {t : Vector} (some
   unfolding bodiesOf edgesOf
   all-words = rw et (bodies-start (stepOf g) vs some ea ew)
 
-  module _ {l l₁ : List ℕ} {p b : ℕ} (q : Runs put fourBytes l headerBytes (entryOf a 0) l₁ p) (eb : b ≡ frontBytes (length vs)) where
+  module _ {l l₁ : List ℕ} {p n b : ℕ} (q : Runs put fourBytes l headerBytes (entryOf a 0) l₁ p) (en : n ≡ length vs) (eb : b ≡ frontBytes n) where
     pub rest-apart : length vs ≤ 4096 → Apart p (tableFrom t w (drop 1 vs)) b (wordsFrom t w (drop 1 vs))
     rest-apart few = record {
       apart = omega (arith, q .pos, longer (entryOf a 0) (tableFrom t w (drop 1 vs)), ap (λ (ws : List ℕ). length (spread fourBytes ws)) all-table, table-bytes g vs);
       fits = omega (arith, ap (λ (ws : List ℕ). length (spread fourBytes ws)) all-words, bodies-bytes g vs, few-edges g vs few);
     }
 
-    pub fill-all : {l₂ : List ℕ} {e : ℕ} → Both l₁ p (tableFrom t w (drop 1 vs)) b (wordsFrom t w (drop 1 vs)) l₂ e → Both l headerBytes (tableOf vs (bodiesOf g vs)) b (bodyWords (edgesOf g vs)) l₂ e
-    fill-all r = both-as all-table all-words (both-first q r)
+    pub fill-all : {l₂ : List ℕ} {e : ℕ} → Both l₁ p (tableFrom t w (drop 1 vs)) b (wordsFrom t w (drop 1 vs)) l₂ e → Both l headerBytes (tableOf vs (bodiesOf g vs)) (frontBytes n) (bodyWords (edgesOf g vs)) l₂ e
+    fill-all r = rw eb at (both-as all-table all-words (both-first q r))
 
 -- ---- and the header before it
 

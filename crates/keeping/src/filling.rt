@@ -1,10 +1,9 @@
 // An outline filled in: the table and the bodies in one walk over lent triples.
 use contacts::Vertex;
-use outline::layout::ENTRY;
 use outline::layout::FIRST_EDITION;
 use outline::layout::HEADER;
-use outline::layout::LEAST;
 use outline::layout::STROKE_KIND;
+use outline::layout::front;
 use paths::paths::vertex;
 use plane::Vector;
 use plane::direction::step;
@@ -119,7 +118,7 @@ fn fill(path: &[i32], n: usize, grade: u32, own: &mut [i32], s: &mut [u8]) -> us
     requires { ⌜ (n ≡ length (pathOf (now path))) × Within grade (pathOf (now path)) × (36908 ≤ length (now own)) ⌝ }
     ensures { λ r. ⌜ Both (now (s .entry)) headerBytes (tableOf (pathOf (now (path .entry))) (bodiesOf grade (pathOf (now (path .entry))))) (frontBytes n) (bodyWords (edgesOf grade (pathOf (now (path .entry))))) (now (s .exit)) r ⌝ }
 {
-    let base = LEAST + ENTRY * n;
+    let base = front(n);
     if n == 0 {
         put_word(s, HEADER, 0);
         return base;

@@ -1,9 +1,7 @@
 // The outline of a path written into lent bytes: counted, held against the room, filled in, with zeros up to an old end.
 use crate::Kept;
 use crate::filling::outline;
-use outline::layout::EDGE;
-use outline::layout::ENTRY;
-use outline::layout::LEAST;
+use outline::layout::whole_length;
 use paths::paths::walk;
 use plane::direction::step;
 use replies::Refusal;
@@ -50,7 +48,7 @@ pub fn rewrite(
     ensures { λ r. ⌜ Rewrites (now (s .entry)) (outlineBytes grade (pathOf (now (path .entry)))) old r (now (s .exit)) ⌝ }
 {
     let m = count(path, n, grade);
-    let needed = LEAST + ENTRY * n + EDGE * m;
+    let needed = whole_length(n, m);
     if s.len() < needed {
         return Kept::Refused(Refusal::NoRoom(needed));
     }

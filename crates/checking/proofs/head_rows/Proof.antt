@@ -44,23 +44,14 @@ word-at-requires-5 c κs = search needs
 cast-m : tie.Need-cast-m
 cast-m c = search needs
 
-mul-if7 : tie.Need-mul-if7
-mul-if7 c = search needs
-
-add-if7 : tie.Need-add-if7
-add-if7 c = search needs
-
-mul-if7-2 : tie.Need-mul-if7-2
-mul-if7-2 c = search needs
-
-add-if7-2 : tie.Need-add-if7-2
-add-if7-2 c = search needs
+whole-length-requires : tie.Need-whole-length-requires
+whole-length-requires c κs = search needs
 
 returns-7 : tie.Need-returns-7
-returns-7 c = head-cut _ (c .before .before .before .before .before .before .before .before .before .before .before .if1 .left) (omega (arith, c .before .before .before .before .before .before .before .before .before .before .word-at .ensures, c .before .before .before .before .before .before .before .before .before .if2 .left)) (omega (arith, c .before .before .before .before .before .before .before .before .word-at2 .ensures, c .before .before .before .before .before .before .before .if3 .left)) (c .before .before .before .before .before .before .word-at3 .ensures) (c .before .before .before .before .before .if4 .left) (c .before .before .before .before .if5 .left) (c .before .before .before .word-at4 .ensures) (c .before .before .if6 .left) (c .before .word-at5 .ensures) (c .if7 .taken)
+returns-7 c = head-cut _ (c .before .before .before .before .before .before .before .before .before .before .before .before .if1 .left) (omega (arith, c .before .before .before .before .before .before .before .before .before .before .before .word-at .ensures, c .before .before .before .before .before .before .before .before .before .before .if2 .left)) (omega (arith, c .before .before .before .before .before .before .before .before .before .word-at2 .ensures, c .before .before .before .before .before .before .before .before .if3 .left)) (c .before .before .before .before .before .before .before .word-at3 .ensures) (c .before .before .before .before .before .before .if4 .left) (c .before .before .before .before .before .if5 .left) (c .before .before .before .before .word-at4 .ensures) (c .before .before .before .if6 .left) (c .before .before .word-at5 .ensures) (omega (arith, c .before .whole-length .ensures, c .if7 .taken))
 
 returns-8 : tie.Need-returns-8
-returns-8 c = head-holds _ (c .before .before .before .before .before .before .before .before .before .before .before .if1 .left) (omega (arith, c .before .before .before .before .before .before .before .before .before .before .word-at .ensures, c .before .before .before .before .before .before .before .before .before .if2 .left)) (omega (arith, c .before .before .before .before .before .before .before .before .word-at2 .ensures, c .before .before .before .before .before .before .before .if3 .left)) (c .before .before .before .before .before .before .word-at3 .ensures) (c .before .before .before .before .before .if4 .left) (c .before .before .before .before .if5 .left) (c .before .before .before .word-at4 .ensures) (c .before .before .if6 .left) (c .before .word-at5 .ensures) (c .before .before .before .before .before .before .before .before .before .before .before .before .shared-slice-known .given) (c .if7 .left)
+returns-8 c = head-holds _ (c .before .before .before .before .before .before .before .before .before .before .before .before .if1 .left) (omega (arith, c .before .before .before .before .before .before .before .before .before .before .before .word-at .ensures, c .before .before .before .before .before .before .before .before .before .before .if2 .left)) (omega (arith, c .before .before .before .before .before .before .before .before .before .word-at2 .ensures, c .before .before .before .before .before .before .before .before .if3 .left)) (c .before .before .before .before .before .before .before .word-at3 .ensures) (c .before .before .before .before .before .before .if4 .left) (c .before .before .before .before .before .if5 .left) (c .before .before .before .before .word-at4 .ensures) (c .before .before .before .if6 .left) (c .before .before .word-at5 .ensures) (c .before .before .before .before .before .before .before .before .before .before .before .before .before .shared-slice-known .given) (omega (arith, c .before .whole-length .ensures, c .if7 .left))
 
 pub head-rows-spec : {M : Type 1} → statement M
 head-rows-spec =
@@ -79,9 +70,6 @@ head-rows-spec =
     returns-6
     word-at-requires-5
     cast-m
-    mul-if7
-    add-if7
-    mul-if7-2
-    add-if7-2
+    whole-length-requires
     returns-7
     returns-8)

@@ -1,5 +1,5 @@
 -- `editing::replacing::change` meets its contract: the rows of the new vertex, then its place among the numbers, and writing where the old outline ends. Assumes nothing.
-use mathlib.Core.Path.{refl, sym, _∙_}
+use mathlib.Core.Path.{sym, _∙_}
 use borrow.Author.Needs.{needs}
 use borrow.Author.Tests.{not-true, not-false}
 use native.Mathlib.Nat.{sub-zero}
@@ -25,17 +25,8 @@ put-vertex-requires c κs = (inside-of (sym (c .before .before .allowed .ensures
 mul-numbers : tie.Need-mul-numbers
 mul-numbers c = omega (arith, known-few (c .before .before .before .before .before .before .before .pre .0))
 
-mul-old : tie.Need-mul-old
-mul-old c = omega (arith, known-few (c .before .before .before .before .before .before .before .pre .0))
-
-add-old : tie.Need-add-old
-add-old c = omega (arith, known-few (c .before .before .before .before .before .before .before .pre .0))
-
-mul-old-2 : tie.Need-mul-old-2
-mul-old-2 c = omega (arith, known-few (c .before .before .before .before .before .before .before .pre .0))
-
-add-old-2 : tie.Need-add-old-2
-add-old-2 c = omega (arith, known-few (c .before .before .before .before .before .before .before .pre .0))
+whole-length-requires : tie.Need-whole-length-requires
+whole-length-requires c κs = omega (arith, known-few (c .before .before .before .before .before .before .before .pre .0))
 
 sub-rewrite : tie.Need-sub-rewrite
 sub-rewrite c = search needs
@@ -44,10 +35,10 @@ part-rewrite-start : tie.Need-part-rewrite-start
 part-rewrite-start c = search needs
 
 part-rewrite-end : tie.Need-part-rewrite-end
-part-rewrite-end c = omega (arith, known-few (c .before .before .before .before .before .before .before .before .pre .0))
+part-rewrite-end c = omega (arith, known-few (c .before .before .before .before .before .before .before .before .before .pre .0))
 
 rewrite-requires : tie.Need-rewrite-requires
-rewrite-requires c κs = (changed-fits (c .before .before .before .before .before .before .before .before .before .before .before .pre .0) (c .before .before .before .before .before .before .before .before .before .before .before .args .index) (c .before .before .before .before .before .before .before .before .before .before .before .args .v) (omega (arith, c .before .before .before .before .before .before .before .before .before .if1 .left)) (c .before .before .before .before .before .put-vertex .ensures) (sub-zero _) (sym (c .before .before .before .before .before .before .before .before .allowed .ensures) ∙ not-false _ (c .before .before .before .before .before .before .before .if2 .left)), known-few (c .before .before .before .before .before .before .before .before .before .before .before .pre .0) .2, c .before .before .before .before .before .before .before .before .before .before .before .pre .1)
+rewrite-requires c κs = (changed-fits (c .before .before .before .before .before .before .before .before .before .before .before .before .pre .0) (c .before .before .before .before .before .before .before .before .before .before .before .before .args .index) (c .before .before .before .before .before .before .before .before .before .before .before .before .args .v) (omega (arith, c .before .before .before .before .before .before .before .before .before .before .if1 .left)) (c .before .before .before .before .before .before .put-vertex .ensures) (sub-zero _) (sym (c .before .before .before .before .before .before .before .before .before .allowed .ensures) ∙ not-false _ (c .before .before .before .before .before .before .before .before .if2 .left)), omega (arith, c .before .before .before .before .whole-length .ensures, known-few (c .before .before .before .before .before .before .before .before .before .before .before .before .pre .0)), c .before .before .before .before .before .before .before .before .before .before .before .before .pre .1)
 
 replaced-requires : tie.Need-replaced-requires
 replaced-requires c κs = search needs
@@ -62,7 +53,7 @@ same-length-3 : tie.Need-same-length-3
 same-length-3 c = search needs
 
 returns-3 : tie.Need-returns-3
-returns-3 c = change-done (c .before .before .before .before .before .before .before .before .before .before .before .before .before .before .before .before .pre .0) (c .before .before .before .before .before .before .before .before .before .before .before .before .before .before .before .before .args .index) (c .before .before .before .before .before .before .before .before .before .before .before .before .before .before .before .before .args .v) (omega (arith, c .before .before .before .before .before .before .before .before .before .before .before .before .before .before .if1 .left)) (pathOf _) (sym (c .before .before .before .before .before .before .before .before .before .before .before .before .before .allowed .ensures) ∙ not-false _ (c .before .before .before .before .before .before .before .before .before .before .before .before .if2 .left)) (changed-path (c .before .before .before .before .before .before .before .before .before .before .before .before .before .before .before .before .pre .0) (c .before .before .before .before .before .before .before .before .before .before .before .before .before .before .before .before .args .index) (c .before .before .before .before .before .before .before .before .before .before .before .before .before .before .before .before .args .v) (omega (arith, c .before .before .before .before .before .before .before .before .before .before .before .before .before .before .if1 .left)) (c .before .before .before .before .before .before .before .before .before .before .put-vertex .ensures) (sub-zero _)) refl (c .before .before .before .before .rewrite .ensures) (c .replaced .ensures)
+returns-3 c = change-done (c .before .before .before .before .before .before .before .before .before .before .before .before .before .before .before .before .before .pre .0) (c .before .before .before .before .before .before .before .before .before .before .before .before .before .before .before .before .before .args .index) (c .before .before .before .before .before .before .before .before .before .before .before .before .before .before .before .before .before .args .v) (omega (arith, c .before .before .before .before .before .before .before .before .before .before .before .before .before .before .before .if1 .left)) (pathOf _) (sym (c .before .before .before .before .before .before .before .before .before .before .before .before .before .before .allowed .ensures) ∙ not-false _ (c .before .before .before .before .before .before .before .before .before .before .before .before .before .if2 .left)) (changed-path (c .before .before .before .before .before .before .before .before .before .before .before .before .before .before .before .before .before .pre .0) (c .before .before .before .before .before .before .before .before .before .before .before .before .before .before .before .before .before .args .index) (c .before .before .before .before .before .before .before .before .before .before .before .before .before .before .before .before .before .args .v) (omega (arith, c .before .before .before .before .before .before .before .before .before .before .before .before .before .before .before .if1 .left)) (c .before .before .before .before .before .before .before .before .before .before .before .put-vertex .ensures) (sub-zero _)) (c .before .before .before .before .before .before .before .before .before .whole-length .ensures) (c .before .before .before .before .rewrite .ensures) (c .replaced .ensures)
 
 pub change-spec : {M : Type 1} → statement M
 change-spec =
@@ -73,10 +64,7 @@ change-spec =
     returns-2
     put-vertex-requires
     mul-numbers
-    mul-old
-    add-old
-    mul-old-2
-    add-old-2
+    whole-length-requires
     sub-rewrite
     part-rewrite-start
     part-rewrite-end

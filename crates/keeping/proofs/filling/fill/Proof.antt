@@ -13,11 +13,8 @@ use Rattle.keeping.proofs.Whole.{fill-none, rest-apart, fill-all}
 use Rattle.keeping.proofs.filling.fill.Statement.{statement}
 use Rattle.keeping.proofs.filling.fill.Tie as tie
 
-mul-base : tie.Need-mul-base
-mul-base c = search needs
-
-add-base : tie.Need-add-base
-add-base c = search needs
+front-requires : tie.Need-front-requires
+front-requires c κs = search needs
 
 put-word-requires : tie.Need-put-word-requires
 put-word-requires c κs = word-room _ (omega arith)
@@ -26,25 +23,25 @@ same-length : tie.Need-same-length
 same-length c = search needs
 
 returns : tie.Need-returns
-returns c = fill-none _ (pathOf (c .before .before .before .before .before .before .args .path .now)) (omega (arith, c .before .before .before .before .before .before .pre .0, c .before .before .before .before .if1 .taken)) (c .before .before .put-word .ensures)
+returns c = fill-none _ (pathOf (c .before .before .before .before .before .before .before .args .path .now)) (omega (arith, c .before .before .before .before .before .before .before .pre .0, c .before .before .before .before .if1 .taken)) (c .before .before .before .before .before .front .ensures) (c .before .before .put-word .ensures)
 
 step-requires : tie.Need-step-requires
 step-requires c κs = search needs
 
 vertex-requires : tie.Need-vertex-requires
-vertex-requires c κs = omega (arith, c .before .before .before .pre .0, some _ (c .before .if1 .left))
+vertex-requires c κs = omega (arith, c .before .before .before .before .pre .0, some _ (c .before .if1 .left))
 
 put-entry-requires : tie.Need-put-entry-requires
-put-entry-requires c κs = (inside-at (pathOf (c .before .before .before .before .before .args .path .now)) 0 (c .before .before .before .before .before .pre .1 .inside) (omega (arith, c .before .before .before .before .before .pre .0, some _ (c .before .before .before .if1 .left))) (c .before .vertex .ensures), room-entry _ _ (omega arith))
+put-entry-requires c κs = (inside-at (pathOf (c .before .before .before .before .before .before .args .path .now)) 0 (c .before .before .before .before .before .before .pre .1 .inside) (omega (arith, c .before .before .before .before .before .before .pre .0, some _ (c .before .before .before .if1 .left))) (c .before .vertex .ensures), room-entry _ _ (omega arith))
 
 new-requires : tie.Need-new-requires
 new-requires c κs = search needs
 
 fill-from-requires : tie.Need-fill-from-requires
 fill-from-requires c κs =
-    let p = pathOf (c .before .before .before .before .before .before .before .before .before .before .before .args .path .now) in
-    let i : 0 < length p = omega (arith, c .before .before .before .before .before .before .before .before .before .before .before .pre .0, some _ (c .before .before .before .before .before .before .before .before .before .if1 .left)) in
-    ((c .before .before .before .before .before .before .before .before .before .before .before .pre .0, some _ (c .before .before .before .before .before .before .before .before .before .if1 .left), c .before .before .before .before .before .before .before .before .before .before .before .pre .1 .inside), ((step-unit _ (c .before .before .before .before .before .before .before .before .step .ensures), rw (c .before .before .new .ensures) (start-around _ (inside-at p 0 (c .before .before .before .before .before .before .before .before .before .before .before .pre .1 .inside) i (c .before .before .before .before .before .before .before .vertex .ensures))), c .before .before .before .before .before .before .before .before .before .before .before .pre .2), rest-apart _ p i (c .before .before .before .before .before .before .before .vertex .ensures) (c .before .before .new .ensures) (c .before .before .before .before .before .before .before .before .step .ensures) (c .before .before .before .before .before .put-entry .ensures) (omega (arith, c .before .before .before .before .before .before .before .before .before .before .before .pre .0)) (c .before .before .before .before .before .before .before .before .before .before .before .pre .1 .count)))
+    let p = pathOf (c .before .before .before .before .before .before .before .before .before .before .before .before .args .path .now) in
+    let i : 0 < length p = omega (arith, c .before .before .before .before .before .before .before .before .before .before .before .before .pre .0, some _ (c .before .before .before .before .before .before .before .before .before .if1 .left)) in
+    ((c .before .before .before .before .before .before .before .before .before .before .before .before .pre .0, some _ (c .before .before .before .before .before .before .before .before .before .if1 .left), c .before .before .before .before .before .before .before .before .before .before .before .before .pre .1 .inside), ((step-unit _ (c .before .before .before .before .before .before .before .before .step .ensures), rw (c .before .before .new .ensures) (start-around _ (inside-at p 0 (c .before .before .before .before .before .before .before .before .before .before .before .before .pre .1 .inside) i (c .before .before .before .before .before .before .before .vertex .ensures))), c .before .before .before .before .before .before .before .before .before .before .before .before .pre .2), rest-apart _ p i (c .before .before .before .before .before .before .before .vertex .ensures) (c .before .before .new .ensures) (c .before .before .before .before .before .before .before .before .step .ensures) (c .before .before .before .before .before .put-entry .ensures) (c .before .before .before .before .before .before .before .before .before .before .before .before .pre .0) (c .before .before .before .before .before .before .before .before .before .before .front .ensures) (c .before .before .before .before .before .before .before .before .before .before .before .before .pre .1 .count)))
 
 same-length-2 : tie.Need-same-length-2
 same-length-2 c = search needs
@@ -54,15 +51,14 @@ same-length-3 c = search needs
 
 returns-2 : tie.Need-returns-2
 returns-2 c =
-    let p = pathOf (c .before .before .before .before .before .before .before .before .before .before .before .before .before .before .before .args .path .now) in
-    fill-all _ p (omega (arith, c .before .before .before .before .before .before .before .before .before .before .before .before .before .before .before .pre .0, some _ (c .before .before .before .before .before .before .before .before .before .before .before .before .before .if1 .left))) (c .before .before .before .before .before .before .before .before .before .before .before .vertex .ensures) (c .before .before .before .before .before .before .new .ensures) (c .before .before .before .before .before .before .before .before .before .before .before .before .step .ensures) (c .before .before .before .before .before .before .before .before .before .put-entry .ensures) (omega (arith, c .before .before .before .before .before .before .before .before .before .before .before .before .before .before .before .pre .0)) (c .before .before .before .fill-from .ensures)
+    let p = pathOf (c .before .before .before .before .before .before .before .before .before .before .before .before .before .before .before .before .args .path .now) in
+    fill-all _ p (omega (arith, c .before .before .before .before .before .before .before .before .before .before .before .before .before .before .before .before .pre .0, some _ (c .before .before .before .before .before .before .before .before .before .before .before .before .before .if1 .left))) (c .before .before .before .before .before .before .before .before .before .before .before .vertex .ensures) (c .before .before .before .before .before .before .new .ensures) (c .before .before .before .before .before .before .before .before .before .before .before .before .step .ensures) (c .before .before .before .before .before .before .before .before .before .put-entry .ensures) (c .before .before .before .before .before .before .before .before .before .before .before .before .before .before .before .before .pre .0) (c .before .before .before .before .before .before .before .before .before .before .before .before .before .before .front .ensures) (c .before .before .before .fill-from .ensures)
 
 pub fill-spec : {M : Type 1} → statement M
 fill-spec =
     tie.close
     (tie.spec
-    mul-base
-    add-base
+    front-requires
     put-word-requires
     same-length
     returns

@@ -10,20 +10,11 @@ use Rattle.keeping.proofs.rewriting.rewrite.Tie as tie
 count-requires : tie.Need-count-requires
 count-requires c κs = search needs
 
-mul-needed : tie.Need-mul-needed
-mul-needed c = search needs
-
-add-needed : tie.Need-add-needed
-add-needed c = search needs
-
-mul-needed-2 : tie.Need-mul-needed-2
-mul-needed-2 c = omega (arith, c .count .ensures, few-edges (c .before .before .args .grade) (pathOf (c .before .before .args .path .now)) (c .before .before .pre .0 .within .count))
-
-add-needed-2 : tie.Need-add-needed-2
-add-needed-2 c = omega (arith, c .before .before .pre .0 .count, c .count .ensures, few-edges (c .before .before .args .grade) (pathOf (c .before .before .args .path .now)) (c .before .before .pre .0 .within .count), c .before .before .pre .0 .within .count)
+whole-length-requires : tie.Need-whole-length-requires
+whole-length-requires c κs = omega (arith, c .before .before .pre .0 .count, c .count .ensures, few-edges (c .before .before .args .grade) (pathOf (c .before .before .args .path .now)) (c .before .before .pre .0 .within .count), c .before .before .pre .0 .within .count)
 
 returns : tie.Need-returns
-returns c = rewrite-short _ _ _ (needed-is (c .before .before .before .args .grade) (pathOf (c .before .before .before .args .path .now)) (c .before .before .before .pre .0 .count) (c .before .count .ensures)) (c .if1 .taken)
+returns c = rewrite-short _ _ _ (needed-is (c .before .before .before .before .args .grade) (pathOf (c .before .before .before .before .args .path .now)) (c .before .before .before .before .pre .0 .count) (c .before .before .count .ensures) (c .before .whole-length .ensures)) (c .if1 .taken)
 
 outline-requires : tie.Need-outline-requires
 outline-requires c κs = search needs
@@ -38,17 +29,14 @@ same-length-2 : tie.Need-same-length-2
 same-length-2 c = search needs
 
 returns-2 : tie.Need-returns-2
-returns-2 c = rewrite-done (c .before .before .before .before .before .before .before .before .before .before .before .before .before .args .grade) (pathOf (c .before .before .before .before .before .before .before .before .before .before .before .before .before .args .path .now)) _ _ (c .before .before .before .before .before .before .before .outline .ensures) (c .before .before .clear .ensures) (omega (arith, c .before .before .before .before .before .before .before .before .before .before .if1 .left, needed-is (c .before .before .before .before .before .before .before .before .before .before .before .before .before .args .grade) (pathOf (c .before .before .before .before .before .before .before .before .before .before .before .before .before .args .path .now)) (c .before .before .before .before .before .before .before .before .before .before .before .before .before .pre .0 .count) (c .before .before .before .before .before .before .before .before .before .before .before .count .ensures))) (c .before .before .before .before .before .before .before .before .before .before .before .before .before .pre .1)
+returns-2 c = rewrite-done (c .before .before .before .before .before .before .before .before .before .before .before .before .before .before .args .grade) (pathOf (c .before .before .before .before .before .before .before .before .before .before .before .before .before .before .args .path .now)) _ _ (c .before .before .before .before .before .before .before .outline .ensures) (c .before .before .clear .ensures) (omega (arith, c .before .before .before .before .before .before .before .before .before .before .if1 .left, needed-is (c .before .before .before .before .before .before .before .before .before .before .before .before .before .before .args .grade) (pathOf (c .before .before .before .before .before .before .before .before .before .before .before .before .before .before .args .path .now)) (c .before .before .before .before .before .before .before .before .before .before .before .before .before .before .pre .0 .count) (c .before .before .before .before .before .before .before .before .before .before .before .before .count .ensures) (c .before .before .before .before .before .before .before .before .before .before .before .whole-length .ensures))) (c .before .before .before .before .before .before .before .before .before .before .before .before .before .before .pre .1)
 
 pub rewrite-spec : {M : Type 1} → statement M
 rewrite-spec =
     tie.close
     (tie.spec
     count-requires
-    mul-needed
-    add-needed
-    mul-needed-2
-    add-needed-2
+    whole-length-requires
     returns
     outline-requires
     clear-requires
