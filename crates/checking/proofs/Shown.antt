@@ -1,9 +1,10 @@
 -- A store's vertices as numbers of 32 bits: entry by entry; and that a radius word of 2^31 or more is outside the limits either way it is read.
 -- Assumes nothing.
-use mathlib.Core.Path.{_≡_, refl, sym, ap, _∙_}
+use mathlib.Core.Path.{_≡_, refl, ap, _∙_}
 use mathlib.Core.Bool.{Bool, true, false, _&&_}
 use mathlib.Core.List.{List, [], _∷_, _++_}
 use Prim.Native.Nat.{ℕ, zero, suc, _+_, _-_, _^_, _≤_, _<_}
+use native.Mathlib.Nat.{add-zero}
 use native.Mathlib.Numerals.{add-one, add-two}
 use native.Mathlib.Omega.{arith}
 use borrow.Author.Tests.{ltb-false, lt-ltb, lt-leb}
@@ -11,7 +12,7 @@ use lib.Dec.{ltb, leb}
 use lib.IntN.{ℤ, pos, negsuc}
 use lib.Signed.{leZ, mag}
 use lib.ListN.{length, getD, set, take, drop}
-use lib.Seq.{drop-cons, take-at}
+use lib.Seq.{getD-drop, drop-drop, take-at}
 use mir.Syntax.{w32}
 use mir.Val.{toZ, ofZ}
 use mir.Facts.{toZ-ofZ}
@@ -21,11 +22,10 @@ use Rattle.contacts.specs.Limits.{allowedOf, firstOutside}
 use Rattle.paths.specs.Paths.{pathOf, vertexNumbers, pathNumbers}
 use Rattle.contacts.specs.declared.Vertex.{Vertex}
 use Rattle.contacts.proofs.Allowed.{inside-of, inside-first}
-use Rattle.outline.specs.Layout.{headerWords, entryAt, frontBytes}
+use Rattle.outline.specs.Layout.{headerWords, entryWords, entryAt}
 use Rattle.words.specs.Words.{numberOf, wordsIn, wordAt}
 use Rattle.outline.specs.Stores.{countIn, entriesIn, pathIn}
 use Rattle.checking.specs.StoreChecks.{shownIn, shownPath, shownAt}
-use Rattle.outline.proofs.Differing.{words-count}
 
 -- ---- three numbers stored: x, y and r are what the code has for them, and u, v and w for their words
 
@@ -43,20 +43,13 @@ vertex-shown {at = at} s k hx hy hr ex ey er eu ev ew = record {
 
 -- ---- entry by entry
 
-four-at : (ws : List ℕ) (i j k l m : ℕ) → j ≡ suc i → k ≡ suc j → l ≡ suc k → m ≡ suc l → m ≤ length ws → drop i ws ≡ getD ws i 0 ∷ getD ws j 0 ∷ getD ws k 0 ∷ getD ws l 0 ∷ drop m ws
-four-at ws i j k l m e f g h n =
-    drop-cons ws i 0 (omega arith) ∙ ap (λ r. getD ws i 0 ∷ r) (ap (λ x. drop x ws) (sym e)
-    ∙ drop-cons ws j 0 (omega arith) ∙ ap (λ r. getD ws j 0 ∷ r) (ap (λ x. drop x ws) (sym f)
-    ∙ drop-cons ws k 0 (omega arith) ∙ ap (λ r. getD ws k 0 ∷ r) (ap (λ x. drop x ws) (sym g)
-    ∙ drop-cons ws l 0 (omega arith) ∙ ap (λ r. getD ws l 0 ∷ r) (ap (λ x. drop x ws) (sym h)))))
-
 module _ (s : List ℕ) (n k : ℕ) where
-  pub shown-next : k < n → frontBytes n ≤ length s → shownIn (n - k) (drop (entryAt k) (wordsIn s)) ≡ (shownAt s k ∷ []) ++ shownIn (n - (k + 1)) (drop (entryAt (k + 1)) (wordsIn s))
+  pub shown-next : k < n → shownIn (n - k) (drop (entryAt k) (wordsIn s)) ≡ (shownAt s k ∷ []) ++ shownIn (n - (k + 1)) (drop (entryAt (k + 1)) (wordsIn s))
   unfolding shownIn shownAt wordAt
-  shown-next h l =
+  shown-next h =
       let a : n - k ≡ suc (n - (k + 1)) = omega arith in
-      let enough : entryAt n ≤ length (wordsIn s) = words-count s (entryAt n) (omega arith) in
-      rw (a, four-at (wordsIn s) (entryAt k) (entryAt k + 1) (entryAt k + 2) (entryAt k + 3) (entryAt (k + 1)) (omega arith) (omega arith) (omega arith) (omega arith) (omega arith)) refl
+      let next : entryAt k + entryWords ≡ entryAt (k + 1) = omega arith in
+      rw a (simp (getD-drop, drop-drop, add-zero, next))
 
   pub shown-end : n ≤ k → shownIn (n - k) (drop (entryAt k) (wordsIn s)) ≡ []
   unfolding shownIn
@@ -86,34 +79,24 @@ number-shown x y r e =
     let h : r ≤ 2 ^ 28 = inside-of {v = record { x = x; y = y; radius = pos r }} e .radius .high in
     rw (lt-ltb r (2 ^ 31) (omega arith), numberOf)
 
-pub shown-count : (n : ℕ) (ws : List ℕ) → length (shownIn n ws) ≡ length (entriesIn n ws)
-unfolding shownIn entriesIn
+pub shown-count : (n : ℕ) (ws : List ℕ) → length (shownIn n ws) ≡ n
+unfolding shownIn
 shown-count zero ws = refl
-shown-count (suc n) [] = refl
-shown-count (suc n) (x ∷ []) = refl
-shown-count (suc n) (x ∷ y ∷ []) = refl
-shown-count (suc n) (x ∷ y ∷ r ∷ []) = refl
-shown-count (suc n) (x ∷ y ∷ r ∷ c ∷ ws) = ap suc (shown-count n ws)
+shown-count (suc n) ws = ap suc (shown-count n (drop entryWords ws))
 
 pub shown-outside : (n : ℕ) (ws : List ℕ) → firstOutside (shownIn n ws) ≡ firstOutside (entriesIn n ws)
 unfolding shownIn entriesIn firstOutside
 shown-outside zero ws = refl
-shown-outside (suc n) [] = refl
-shown-outside (suc n) (x ∷ []) = refl
-shown-outside (suc n) (x ∷ y ∷ []) = refl
-shown-outside (suc n) (x ∷ y ∷ r ∷ []) = refl
-shown-outside (suc n) (x ∷ y ∷ r ∷ c ∷ ws) = λ i. elim (allowed-shown (numberOf x) (numberOf y) r i) [ true ↦ suc (shown-outside n ws i) | false ↦ 0 ]
+shown-outside (suc n) ws = λ i. elim (allowed-shown (numberOf (getD ws 0 0)) (numberOf (getD ws 1 0)) (getD ws 2 0) i) [ true ↦ suc (shown-outside n (drop entryWords ws) i) | false ↦ 0 ]
 
 shown-same : (n : ℕ) (ws : List ℕ) → firstOutside (entriesIn n ws) ≡ length (entriesIn n ws) → shownIn n ws ≡ entriesIn n ws
 unfolding shownIn entriesIn
 shown-same zero ws h = refl
-shown-same (suc n) [] h = refl
-shown-same (suc n) (x ∷ []) h = refl
-shown-same (suc n) (x ∷ y ∷ []) h = refl
-shown-same (suc n) (x ∷ y ∷ r ∷ []) h = refl
-shown-same (suc n) (x ∷ y ∷ r ∷ c ∷ ws) h =
-    let f = inside-first (record { x = numberOf x; y = numberOf y; radius = pos r }) (entriesIn n ws) h in
-    λ i. record { x = numberOf x; y = numberOf y; radius = number-shown (numberOf x) (numberOf y) r (f .0) i } ∷ shown-same n ws (f .1) i
+shown-same (suc n) ws h =
+    let x = numberOf (getD ws 0 0) in
+    let y = numberOf (getD ws 1 0) in
+    let f = inside-first (record { x = x; y = y; radius = pos (getD ws 2 0) }) (entriesIn n (drop entryWords ws)) h in
+    λ i. record { x = x; y = y; radius = number-shown x y (getD ws 2 0) (f .0) i } ∷ shown-same n (drop entryWords ws) (f .1) i
 
 pub shown-path : (s : List ℕ) → firstOutside (pathIn s) ≡ length (pathIn s) → shownPath s ≡ pathIn s
 unfolding shownPath pathIn

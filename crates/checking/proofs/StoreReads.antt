@@ -1,7 +1,7 @@
 -- What the rows of a store say to whoever reads it on: a refusal is the reply, and of a store that passed the header is known. Assumes nothing.
 use mathlib.Core.Path.{_≡_, sym, ap, _∙_}
 use mathlib.Core.List.{List, _++_}
-use Prim.Native.Nat.{ℕ, _+_, _-_, _*_, _≤_}
+use Prim.Native.Nat.{ℕ, _-_, _*_, _≤_}
 use native.Mathlib.Nat.{sub-zero}
 use native.Mathlib.Omega.{arith}
 use lib.IntN.{ℤ}
@@ -19,9 +19,9 @@ use Rattle.replies.specs.declared.Refusal.{Refusal}
 use Rattle.checking.specs.declared.Header.{Header}
 use Rattle.checking.specs.declared.Checked.{Checked}
 use Rattle.checking.specs.declared.Checked.the-variants.{Refused}
+use Rattle.outline.proofs.ReadBack.{path-count-in}
 use Rattle.replies.proofs.Rows.{rows-append}
 use Rattle.checking.proofs.Shown.{path-back, path-front}
-use Rattle.checking.proofs.StoreRows.{path-count-in}
 
 -- ---- whatever further rows say
 
@@ -38,7 +38,7 @@ store-passes {s} more last a = rows-append (storeRows s) more last ∙ a .passed
 
 module _ {s : List ℕ} {h : Header} (H : Head s h) where
   pub header-count : h .n ≡ length (pathIn s)
-  header-count = H .vertices ∙ sym (path-count-in s (H .headed .long))
+  header-count = H .vertices ∙ sym (path-count-in s)
 
   pub header-length : lengthOf (h .n) (h .m) ≡ lengthIn s
   unfolding lengthIn

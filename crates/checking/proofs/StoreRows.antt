@@ -8,13 +8,13 @@ use native.Mathlib.Omega.{arith}
 use borrow.Author.Tests.{eq-eqb, ne-eqb, lt-ltb, le-ltb}
 use lib.Dec.{ltb}
 use lib.IntN.{ℤ}
-use lib.ListN.{length, getD, take, drop, length-drop}
+use lib.ListN.{length, getD, take, drop}
 use mir.Syntax.{w8}
 use mir.Val.{Fits}
 use Rattle.contacts.specs.Limits.{firstOutside}
 use Rattle.paths.specs.Paths.{pathNumbers, Within}
 use Rattle.contacts.specs.declared.Vertex.{Vertex}
-use Rattle.outline.specs.Layout.{firstEdition, strokeKind, headerWords, leastBytes, entryAt, lengthOf}
+use Rattle.outline.specs.Layout.{firstEdition, strokeKind, headerWords, leastBytes, lengthOf}
 use Rattle.outline.specs.Outlines.{outlineBytes}
 use Rattle.words.specs.Words.{wordsIn, wordAt}
 use Rattle.outline.specs.Stores.{editionIn, kindIn, gradeIn, countIn, lengthIn, pathIn, dueIn, firstDiffering, differingIn}
@@ -32,7 +32,7 @@ use Rattle.checking.specs.declared.Checked.{Checked}
 use Rattle.checking.specs.declared.Checked.the-variants.{Holds, Refused}
 use Rattle.replies.proofs.Rows.{rows-append}
 use Rattle.contacts.proofs.Allowed.{outside-most}
-use Rattle.outline.proofs.Differing.{words-count, entries-full}
+use Rattle.outline.proofs.ReadBack.{path-count-in}
 use Rattle.checking.proofs.Shown.{shown-count, shown-outside, shown-path}
 use Rattle.checking.proofs.FirstByte.{end-is, not-sound, is-sound}
 
@@ -117,16 +117,10 @@ module _ (s : List ℕ) where
 
 -- ---- the rows past the header
 
-pub path-count-in : (s : List ℕ) → lengthIn s ≤ length s → length (pathIn s) ≡ countIn s
-unfolding pathIn lengthIn
-path-count-in s h =
-    let enough : entryAt (countIn s) ≤ length (wordsIn s) = words-count s (entryAt (countIn s)) (omega (arith, h)) in
-    entries-full (countIn s) (drop headerWords (wordsIn s)) (omega (arith, length-drop headerWords (wordsIn s)))
-
 module _ {s : List ℕ} {h : Header} {vs : List Vertex} (H : Head s h) (P : vs ≡ shownPath s) where
   pub count-is : h .n ≡ length vs
-  unfolding shownPath pathIn
-  count-is = H .vertices ∙ sym (ap length P ∙ shown-count (countIn s) (drop headerWords (wordsIn s)) ∙ path-count-in s (H .headed .long))
+  unfolding shownPath
+  count-is = H .vertices ∙ sym (ap length P ∙ shown-count (countIn s) (drop headerWords (wordsIn s)))
 
   outside-is : firstOutside vs ≡ firstOutside (pathIn s)
   unfolding shownPath pathIn
@@ -140,12 +134,12 @@ module _ {s : List ℕ} {h : Header} {vs : List Vertex} (H : Head s h) (P : vs �
   unfolding restRows outsideRow firstRow refusalOf
   rest-outside {i} e l =
       let f : i ≡ firstOutside (pathIn s) = e ∙ outside-is in
-      let k : firstOutside (pathIn s) < length (pathIn s) = omega (arith, H .vertices, path-count-in s (H .headed .long)) in
+      let k : firstOutside (pathIn s) < length (pathIn s) = omega (arith, H .vertices, path-count-in s) in
       rest-refused (Outside i) (λ more. rw (f, lt-ltb (firstOutside (pathIn s)) (length (pathIn s)) k, firstRow))
 
   module _ {i : ℕ} (e : i ≡ firstOutside vs) (l : h .n ≤ i) where
     inside-is : firstOutside (pathIn s) ≡ length (pathIn s)
-    inside-is = le-antisymm (outside-most (pathIn s)) (omega (arith, e, outside-is, H .vertices, path-count-in s (H .headed .long)))
+    inside-is = le-antisymm (outside-most (pathIn s)) (omega (arith, e, outside-is, H .vertices, path-count-in s))
 
     same-path : vs ≡ pathIn s
     same-path = P ∙ shown-path s inside-is
@@ -154,7 +148,7 @@ module _ {s : List ℕ} {h : Header} {vs : List Vertex} (H : Head s h) (P : vs �
     within = record {
       low = omega (arith, H .low, H .grade);
       high = omega (arith, H .high, H .grade);
-      count = omega (arith, H .headed .count, path-count-in s (H .headed .long));
+      count = omega (arith, H .headed .count, path-count-in s);
       inside = inside-is;
     }
 

@@ -3,10 +3,10 @@ use mathlib.Core.Path.{_≡_}
 use mathlib.Core.List.{List, [], _∷_}
 use Prim.Native.Nat.{ℕ, zero, suc, _+_, _*_, _≤_}
 use lib.IntN.{ℤ}
-use lib.ListN.{take, drop}
+use lib.ListN.{getD, take, drop}
 use Rattle.paths.specs.Paths.{pathNumbers, Within}
 use Rattle.contacts.specs.declared.Vertex.{Vertex}
-use Rattle.outline.specs.Layout.{headerWords, entryAt}
+use Rattle.outline.specs.Layout.{headerWords, entryWords, entryAt}
 use Rattle.words.specs.Words.{numberOf, wordsIn, wordAt}
 use Rattle.outline.specs.Stores.{gradeIn, countIn, pathIn}
 use Rattle.replies.specs.Replies.{Reply, Row, firstRow, gradeRow, countRow, outsideRow}
@@ -43,14 +43,10 @@ pub record HeadSays (s : List ℕ) (r : Checked) : Type 0 where
   pub head : (h : Header) → r ≡ Holds h → Head s h
 
 -- The vertices of a table as numbers of 32 bits, the radius too in two's complement: a radius word of 2^31 or more then lies below 0, and is
--- outside the limits as it is where it is unsigned.
+-- outside the limits as it is where it is unsigned. A word that is missing is 0.
 unfoldable pub shownIn : ℕ → List ℕ → List Vertex
 shownIn zero ws = []
-shownIn (suc n) [] = []
-shownIn (suc n) (x ∷ []) = []
-shownIn (suc n) (x ∷ y ∷ []) = []
-shownIn (suc n) (x ∷ y ∷ r ∷ []) = []
-shownIn (suc n) (x ∷ y ∷ r ∷ c ∷ ws) = record { x = numberOf x; y = numberOf y; radius = numberOf r } ∷ shownIn n ws
+shownIn (suc n) ws = record { x = numberOf (getD ws 0 0); y = numberOf (getD ws 1 0); radius = numberOf (getD ws 2 0) } ∷ shownIn n (drop entryWords ws)
 
 unfoldable pub shownPath : List ℕ → List Vertex
 shownPath s = shownIn (countIn s) (drop headerWords (wordsIn s))

@@ -2,7 +2,7 @@
 use mathlib.Core.Path.{_≡_, refl, sym, ap, _∙_}
 use mathlib.Core.Bool.{true}
 use mathlib.Core.List.{List, [], _∷_, _++_, append-assoc}
-use Prim.Native.Nat.{ℕ, zero, suc, _+_, _-_, _≤_}
+use Prim.Native.Nat.{ℕ, zero, suc, _-_}
 use native.Mathlib.Nat.{le-antisymm}
 use native.Mathlib.Omega.{arith}
 use lib.ListN.{length, drop, set, replicate, length-set}
@@ -10,28 +10,17 @@ use borrow.Author.Tests.{ltb-false, not-false}
 use Rattle.contacts.specs.Limits.{allowedOf, firstOutside}
 use Rattle.contacts.specs.declared.Vertex.{Vertex}
 use Rattle.locality.proofs.Locality.{earlier-kept, reach-kept}
-use Rattle.outline.specs.Layout.{headerWords}
 use Rattle.outline.specs.Outlines.{outlineBytes}
-use Rattle.words.specs.Words.{wordsIn}
-use Rattle.outline.specs.Stores.{gradeIn, countIn, lengthIn, entriesIn, pathIn, bodiesIn, soundOf}
+use Rattle.outline.specs.Stores.{gradeIn, countIn, lengthIn, pathIn, bodiesIn, soundOf}
 use Rattle.checking.specs.StoreRows.{editionRow, kindRow, lengthRow, soundRow, storeRows}
 use Rattle.replies.specs.Replies.{gradeRow, countRow, outsideRow, indexRow, newRow, roomRow, written}
 use Rattle.editing.specs.Replacing.{replacedOf, replaceReply, replaceOut, ReplacedIsSound, StoreKept}
 use Rattle.paths.specs.Paths.{Within}
 use Rattle.replies.proofs.Rows.{NoneHold, first-none, either}
 use Rattle.contacts.proofs.Allowed.{inside-first, outside-most}
-use Rattle.outline.proofs.ReadBack.{kept-is-sound}
+use Rattle.outline.proofs.ReadBack.{path-count-in, kept-is-sound}
 
 -- ---- the path
-
-entries-count : (n : ℕ) (ws : List ℕ) → length (entriesIn n ws) ≤ n
-unfolding entriesIn
-entries-count zero ws = omega arith
-entries-count (suc n) [] = omega arith
-entries-count (suc n) (x ∷ []) = omega arith
-entries-count (suc n) (x ∷ y ∷ []) = omega arith
-entries-count (suc n) (x ∷ y ∷ r ∷ []) = omega arith
-entries-count (suc n) (x ∷ y ∷ r ∷ c ∷ ws) = omega (arith, entries-count n ws)
 
 outside-set : (vs : List Vertex) (k : ℕ) (v : Vertex) → allowedOf v ≡ true → firstOutside vs ≡ length vs → firstOutside (set vs k v) ≡ length vs
 unfolding firstOutside
@@ -48,16 +37,15 @@ replace-none s k v h = first-none _ _ (refl, (refl, (refl, (refl, (refl, (refl, 
 
 -- the store's own path is within the limits, and so is it with a vertex that is allowed
 pub within-store : (s : List ℕ) (k : ℕ) (v : Vertex) → replaceReply s k v .0 ≡ 0 → Within (gradeIn s) (pathIn s)
-unfolding storeRows gradeRow countRow outsideRow pathIn
+unfolding storeRows gradeRow countRow outsideRow
 within-store s k v h =
     let r = replace-none s k v h in
     let g = either _ _ (r .1 .1 .0) in
     let vs = pathIn s in
-    let n : length vs ≤ countIn s = entries-count (countIn s) (drop headerWords (wordsIn s)) in
     record {
       low = ltb-false _ _ (g .0);
       high = ltb-false _ _ (g .1);
-      count = omega (arith, n, ltb-false 4096 (countIn s) (r .1 .1 .1 .0));
+      count = omega (arith, path-count-in s, ltb-false 4096 (countIn s) (r .1 .1 .1 .0));
       inside = le-antisymm (outside-most vs) (ltb-false _ _ (r .1 .1 .1 .1 .1 .0));
     }
 

@@ -35,8 +35,7 @@ use Rattle.replies.specs.declared.Refusal.the-variants.{NoVertex, Outside}
 use Rattle.keeping.specs.declared.Kept.{Kept}
 use Rattle.editing.specs.declared.Replaced.{Replaced}
 use Rattle.editing.specs.declared.Replaced.the-variants as replaced
-use Rattle.outline.proofs.ReadBack.{numbers-count}
-use Rattle.checking.proofs.StoreRows.{path-count-in}
+use Rattle.outline.proofs.ReadBack.{path-count-in, numbers-count}
 use Rattle.editing.proofs.Changed.{within-changed}
 use Rattle.replies.proofs.Rows.{rows-append, refused-written}
 use Rattle.replies.proofs.PathChecks.{passes}
@@ -97,7 +96,7 @@ numbers-fit g vs p {n} e en h =
 
 module _ {s : List ℕ} {p : List ℤ} {g n m : ℕ} (h : Known s p g n m) where
   known-count : length (pathIn s) ≡ n
-  known-count = path-count-in s (h .long) ∙ sym (h .vertices)
+  known-count = path-count-in s ∙ sym (h .vertices)
 
   known-long : lengthOf n m ≡ lengthIn s
   unfolding lengthIn

@@ -7,7 +7,7 @@ use Prim.Native.Nat.{ℕ, zero, suc, _+_, _*_, _/_, _%_, _^_, _≤_, _<_}
 use native.Mathlib.Nat.{div-div-eq-div-mul}
 use native.Mathlib.Omega.{arith}
 use lib.Dec.{eqb}
-use lib.ListN.{length, getD, take, drop, length-drop}
+use lib.ListN.{length, getD, take, drop}
 use lib.Seq.{length-take-le}
 use borrow.Author.Tests.{eq-eqb, eqb-true, eqb-false}
 use Rattle.runs.specs.Runs.{spread}
@@ -16,10 +16,10 @@ use Rattle.contacts.specs.declared.Vertex.{Vertex}
 use Rattle.outline.specs.Layout.{lengthOf}
 use Rattle.words.specs.Words.{fourBytes, bytesOf, wordsIn, wordAt}
 use Rattle.outline.specs.Outlines.{headerOf, tableOf, bodyWords, wordsWith, outlineWords, outlineBytes}
-use Rattle.outline.specs.Stores.{editionIn, kindIn, gradeIn, countIn, lengthIn, entriesIn, pathIn, dueIn, sameBytes, soundOf, firstDiffering, differingIn}
+use Rattle.outline.specs.Stores.{editionIn, kindIn, gradeIn, countIn, lengthIn, pathIn, dueIn, sameBytes, soundOf, firstDiffering, differingIn}
 use Rattle.outline.specs.Theorems.{Bytes, DifferingInside}
 use Rattle.words.proofs.Bytes.{four-back}
-use Rattle.outline.proofs.ReadBack.{outline-length, edges-few}
+use Rattle.outline.proofs.ReadBack.{path-count-in, outline-length, edges-few}
 
 -- ---- lists that are not the same differ first at a place inside both, where they are of one length
 
@@ -82,7 +82,7 @@ words-again (suc k) (a ∷ b ∷ c ∷ d ∷ s) h l =
     let e : 4 * suc k ≡ suc (suc (suc (suc (4 * k)))) = omega arith in
     rw (e, four-again a b c d (h .0) (h .1 .0) (h .1 .1 .0) (h .1 .1 .1 .0)) (ap (λ (r : List ℕ). a ∷ b ∷ c ∷ d ∷ r) (words-again k s (h .1 .1 .1 .1) (omega arith)))
 
-pub words-count : (s : List ℕ) (k : ℕ) → 4 * k ≤ length s → k ≤ length (wordsIn s)
+words-count : (s : List ℕ) (k : ℕ) → 4 * k ≤ length s → k ≤ length (wordsIn s)
 unfolding wordsIn
 words-count [] k h = omega arith
 words-count (a ∷ []) k h = omega arith
@@ -90,16 +90,6 @@ words-count (a ∷ b ∷ []) k h = omega arith
 words-count (a ∷ b ∷ c ∷ []) k h = omega arith
 words-count (a ∷ b ∷ c ∷ d ∷ s) zero h = omega arith
 words-count (a ∷ b ∷ c ∷ d ∷ s) (suc k) h = omega (arith, words-count s k (omega arith))
-
--- as many entries as the words allow
-pub entries-full : (n : ℕ) (ws : List ℕ) → 4 * n ≤ length ws → length (entriesIn n ws) ≡ n
-unfolding entriesIn
-entries-full zero ws h = refl
-entries-full (suc n) [] h = absurd (omega arith)
-entries-full (suc n) (x ∷ []) h = absurd (omega arith)
-entries-full (suc n) (x ∷ y ∷ []) h = absurd (omega arith)
-entries-full (suc n) (x ∷ y ∷ r ∷ []) h = absurd (omega arith)
-entries-full (suc n) (x ∷ y ∷ r ∷ c ∷ ws) h = ap suc (entries-full n ws (omega arith))
 
 -- ---- the header's words
 
@@ -180,7 +170,7 @@ differing-inside s h f =
     let e : lengthIn s ≡ 4 * suc (suc (suc (suc (suc j)))) = omega arith in
     let enough : suc (suc (suc (suc (suc j)))) ≤ length ws = words-count s (suc (suc (suc (suc (suc j))))) (omega (arith, h .long)) in
     let head : ws ≡ 1 ∷ 0 ∷ g ∷ n ∷ m ∷ drop 5 ws = rw (h .edition, h .kind) at (five ws (omega arith)) in
-    let few : length vs ≡ n = entries-full n (drop 5 ws) (omega (arith, length-drop 5 ws)) in
+    let few : length vs ≡ n = path-count-in s in
     let ea : take (lengthIn s) s ≡ firstOf g n ++ (fourBytes m ++ bytesOf (take j (drop 5 ws))) =
     ap (λ (i : ℕ). take i s) e ∙ words-again (suc (suc (suc (suc (suc j))))) s (h .bytes) (omega (arith, h .long)) ∙ cut-words ws g n m j head in
     let ed = rw few at (due-words g vs) in

@@ -3,11 +3,11 @@
 use mathlib.Core.Path.{_≡_, refl, sym, ap, _∙_}
 use mathlib.Core.Bool.{Bool, true, false, _&&_, true≢false}
 use mathlib.Core.List.{List, [], _∷_, _++_}
-use Prim.Native.Nat.{ℕ, suc, _+_, _*_, _^_, _≤_, _<_}
+use Prim.Native.Nat.{ℕ, zero, suc, _+_, _*_, _^_, _≤_, _<_}
 use native.Mathlib.Omega.{arith}
 use lib.IntN.{ℤ, pos, negsuc}
 use lib.Signed.{leZ}
-use lib.ListN.{length, getD, length-append}
+use lib.ListN.{length, getD, drop, length-append}
 use lib.Seq.{take-append-seam}
 use borrow.Author.Tests.{leb-true, eq-eqb}
 use Rattle.runs.specs.Runs.{spread}
@@ -21,6 +21,7 @@ use Rattle.paths.specs.Paths.{vertexNumbers, pathNumbers, bodiesFrom, bodiesAt,
 use Rattle.paths.proofs.Most.{edges-most}
 use Rattle.contacts.specs.declared.Vertex.{Vertex}
 use Rattle.variable_stroke.specs.declared.Walk.{Walk}
+use Rattle.outline.specs.Layout.{headerWords, entryWords}
 use Rattle.words.specs.Words.{wordOf, numberOf, wordsOf, wordsIn, wordAt}
 use Rattle.outline.specs.Outlines.{headerOf, entryOf, tableOf, bodyWords, wordsWith, outlineWords, outlineBytes}
 use Rattle.outline.specs.Stores.{gradeIn, countIn, lengthIn, entriesIn, pathIn, dueIn, sameBytes, soundOf}
@@ -28,12 +29,23 @@ use Rattle.outline.specs.Theorems.{KeptIsSound, OneOutline, OutlineLengt
 use Rattle.words.proofs.Bytes.{Fit, fit-append, words-back, bytes-length, word-fits, words-fit, number-back}
 use Rattle.contacts.proofs.Allowed.{inside-first}
 
+-- ---- a store has as many vertices as its header counts, whatever its words
+
+entries-count : (n : ℕ) (ws : List ℕ) → length (entriesIn n ws) ≡ n
+unfolding entriesIn
+entries-count zero ws = refl
+entries-count (suc n) ws = ap suc (entries-count n (drop entryWords ws))
+
+pub path-count-in : (s : List ℕ) → length (pathIn s) ≡ countIn s
+unfolding pathIn
+path-count-in s = entries-count (countIn s) (drop headerWords (wordsIn s))
+
+-- ---- a vertex within the limits
+
 radius-back : (z : ℤ) → leZ (pos 0) z ≡ true → leZ z (pos 268435456) ≡ true → pos (wordOf z) ≡ z
 unfolding wordOf
 radius-back (pos n) h k = let l : n ≤ 268435456 = leb-true n 268435456 k in ap pos (omega arith)
 radius-back (negsuc n) h k = absurd (true≢false (sym h))
-
--- ---- a vertex within the limits
 
 both : (a b : Bool) → (a && b) ≡ true → (a ≡ true) × (b ≡ true)
 both true b e = (refl, e)

@@ -4,11 +4,11 @@ use mathlib.Core.List.{List, [], _∷_}
 use Prim.Native.Nat.{ℕ, zero, suc, _+_, _*_}
 use lib.Dec.{eqb, ltb}
 use lib.IntN.{pos}
-use lib.ListN.{take, drop}
+use lib.ListN.{getD, take, drop}
 use Rattle.turning.specs.declared.Edge.{Edge}
 use Rattle.paths.specs.Paths.{bodiesOf}
 use Rattle.contacts.specs.declared.Vertex.{Vertex}
-use Rattle.outline.specs.Layout.{headerWords, entryAt, edgeBytes, frontBytes, lengthOf}
+use Rattle.outline.specs.Layout.{headerWords, entryWords, entryAt, edgeBytes, frontBytes, lengthOf}
 use Rattle.words.specs.Words.{numberOf, wordsIn, wordAt}
 use Rattle.outline.specs.Outlines.{outlineBytes}
 
@@ -29,14 +29,10 @@ countIn store = wordAt store 3
 unfoldable pub lengthIn : List ℕ → ℕ
 lengthIn store = lengthOf (countIn store) (wordAt store 4)
 
--- Per vertex: x, y, radius and a count; n vertices of a table.
+-- Document 01, "The kept outline". Per vertex: x, y, radius and a count; the n vertices of a table. A word that is missing is 0.
 unfoldable pub entriesIn : ℕ → List ℕ → List Vertex
 entriesIn zero ws = []
-entriesIn (suc n) [] = []
-entriesIn (suc n) (x ∷ []) = []
-entriesIn (suc n) (x ∷ y ∷ []) = []
-entriesIn (suc n) (x ∷ y ∷ r ∷ []) = []
-entriesIn (suc n) (x ∷ y ∷ r ∷ c ∷ ws) = record { x = numberOf x; y = numberOf y; radius = pos r } ∷ entriesIn n ws
+entriesIn (suc n) ws = record { x = numberOf (getD ws 0 0); y = numberOf (getD ws 1 0); radius = pos (getD ws 2 0) } ∷ entriesIn n (drop entryWords ws)
 
 unfoldable pub pathIn : List ℕ → List Vertex
 pathIn store = entriesIn (countIn store) (drop headerWords (wordsIn store))

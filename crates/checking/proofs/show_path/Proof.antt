@@ -35,7 +35,7 @@ loop-less : tie.Need-loop-less Inv-loop μ-loop
 loop-less c = omega arith
 
 loop-again : tie.Need-loop-again Inv-loop μ-loop
-loop-again c = (omega arith, onward-step (onward-as (shown-next (c .before .before .before .before .before .before .args .s .now) (c .before .before .before .before .before .before .args .n) (c .before .before .before .before .loop .k) (c .before .before .before .loop-test .taken) (c .before .before .before .before .before .before .pre .0)) (c .before .before .before .before .loop .inv .1)) (runs-to (omega arith) (c .before .show-vertex .ensures)))
+loop-again c = (omega arith, onward-step (onward-as (shown-next (c .before .before .before .before .before .before .args .s .now) (c .before .before .before .before .before .before .args .n) (c .before .before .before .before .loop .k) (c .before .before .before .loop-test .taken)) (c .before .before .before .before .loop .inv .1)) (runs-to (omega arith) (c .before .show-vertex .ensures)))
 
 same-length : tie.Need-same-length Inv-loop μ-loop
 same-length c = onward-length (c .before .loop .inv .1)
