@@ -21,16 +21,11 @@ pub fn zeros<T: Clone + Default>(length: usize) -> Result<Vec<T>, Failure> {
     Ok(zeros)
 }
 
-/// An empty vector with room for so many bytes; where that is much, in whole
-/// large pages, which the allocator's own few bytes must not exceed.
+/// An empty vector with room for so many bytes, or without any where there is no
+/// memory: then reading into it says so.
 pub fn room(bytes: usize) -> Vec<u8> {
-    let whole = (bytes + SMALL).next_multiple_of(LARGE) - SMALL;
     let mut room = Vec::new();
-    // where there is no memory, reading the input says so
-    if room
-        .try_reserve_exact(if bytes < LARGE { bytes } else { whole })
-        .is_ok()
-    {
+    if room.try_reserve_exact(bytes).is_ok() {
         advise(&room);
     }
     room
@@ -83,9 +78,10 @@ mod tests {
 
     #[test]
     fn there_is_as_much_room_as_was_asked_for() {
-        for bytes in [0, 1, LARGE - 1, LARGE, 3 * LARGE - 4096, 3 * LARGE] {
+        for bytes in [0, 1, 3 * LARGE] {
             assert!(room(bytes).capacity() >= bytes);
         }
+        assert_eq!(room(1 << 63).capacity(), 0);
     }
 
     #[test]
