@@ -2,7 +2,7 @@
 use crate::Kind;
 use crate::Vertex;
 use number::division::mul_div;
-use number::root::quick_root;
+use number::root::root;
 use number::sign::size;
 use plane::Point;
 use plane::Vector;
@@ -82,7 +82,7 @@ fn tangent(sq: u64, delta: i64, k: u32) -> u32
     ensures { λ r. ⌜ r ≡ tangentOf sq delta ⌝ }
 {
     let d = size(delta);
-    quick_root((sq - d * d) << (2 * k))
+    root((sq - d * d) << (2 * k))
 }
 
 // a * 2^k.

@@ -22,38 +22,38 @@ square c = rw (length c) (c .before .pre .0)
 room : (c : tie.After-size) → Shifts (c .before .args .sq) (c .before .args .k)
 room c = shifts-as _ _ (omega (arith, c .before .pre .0)) (c .before .pre .1) (c .before .pre .2)
 
-mul-quick-root : tie.Need-mul-quick-root
-mul-quick-root c = omega (arith, square c, c .before .pre .1)
+mul-root : tie.Need-mul-root
+mul-root c = omega (arith, square c, c .before .pre .1)
 
-sub-quick-root : tie.Need-sub-quick-root
-sub-quick-root c = omega (arith, square c)
+sub-root : tie.Need-sub-root
+sub-root c = omega (arith, square c)
 
-mul-quick-root-2 : tie.Need-mul-quick-root-2
-mul-quick-root-2 c = omega (arith, room c .high)
+mul-root-2 : tie.Need-mul-root-2
+mul-root-2 c = omega (arith, room c .high)
 
-cast-quick-root : tie.Need-cast-quick-root
-cast-quick-root c = search needs
+cast-root : tie.Need-cast-root
+cast-root c = search needs
 
-shl-quick-root : tie.Need-shl-quick-root
-shl-quick-root c = omega (arith, room c .high)
+shl-root : tie.Need-shl-root
+shl-root c = omega (arith, room c .high)
 
-quick-root-requires : tie.Need-quick-root-requires
-quick-root-requires c κs = search needs
+root-requires : tie.Need-root-requires
+root-requires c κs = search needs
 
 returns : tie.Need-returns
 returns c =
     let s = c .before .before in
-    tangent-back _ _ (omega (arith, s .pre .0)) (s .pre .1) (s .pre .2) _ (length (c .before)) (c .quick-root .ensures)
+    tangent-back _ _ (omega (arith, s .pre .0)) (s .pre .1) (s .pre .2) _ (length (c .before)) (c .root .ensures)
 
 pub tangent-spec : {M : Type 1} → statement M
 tangent-spec =
     tie.close
     (tie.spec
     size-requires
-    mul-quick-root
-    sub-quick-root
-    mul-quick-root-2
-    cast-quick-root
-    shl-quick-root
-    quick-root-requires
+    mul-root
+    sub-root
+    mul-root-2
+    cast-root
+    shl-root
+    root-requires
     returns)
