@@ -18,7 +18,7 @@ use Rattle.joins.specs.Joins.{startCap, endCap, joinOf}
 use Rattle.variable_stroke.specs.Chains.{freshOf, bothButt, loneOf, finishLast, finishOf, meetLast, drawnOf, breakEnd, breakStart, leaveEdges, leaveChain, leaveClosing, markedOf, emittedOf, nextChain, nextLast, nextClosing, nextOf, startOf}
 use Rattle.contacts.specs.Bounds.{Inside, Around, AroundLast}
 use Rattle.variable_stroke.specs.Bounds.{AroundChain, AroundWalk}
-use Rattle.variable_stroke.specs.Steps.{Finishes, Starts, Extends, Leaves, Strides}
+use Rattle.variable_stroke.specs.Steps.{Finishes, Starts, Extends, Marks, Leaves, Strides}
 use Rattle.contacts.proofs.Steps.{drawn-whole}
 use Rattle.contacts.specs.declared.Vertex.{Vertex}
 use Rattle.contacts.specs.declared.Section.{Section}
@@ -157,10 +157,13 @@ walk-drawn pen w b {s} {r} {g} e l f d = record {
   made = lays-as (emitted-drawn (pen .step) w b e (l .chain) f) (lays-then (l .made) (d .made));
 }
 
-pub walk-thin : {l₀ l₁ : List ℤ} {at : ℕ} (pen : Pen) (w : Walk) (b : Vertex) {r : Left} → kindOf (w .at) b ≡ Thin → Leaves l₀ at pen w b l₁ r
-    → Strides l₀ at pen w b l₁ (record { walk = record { at = b; chain = record { start = r .chain .start; cap = r .chain .cap; last = r .chain .last; mark = true }; previous = Nothing; closing = r .closing }; at = r .at })
-unfolding nextOf nextChain nextLast nextClosing markedOf
-walk-thin pen w b e l = record { walk = rw (l .chain, l .closing, e); made = lays-as (emitted-thin (pen .step) w b e) (l .made) }
+pub walk-thin : {l₀ l₁ : List ℤ} {at : ℕ} (pen : Pen) (w : Walk) (b : Vertex) {r : Left} {g : Stepped} → kindOf (w .at) b ≡ Thin → Leaves l₀ at pen w b l₁ r
+    → Marks (r .at) (r .chain) g → Strides l₀ at pen w b l₁ (record { walk = record { at = b; chain = g .chain; previous = Nothing; closing = r .closing }; at = g .at })
+unfolding nextOf nextChain nextLast nextClosing
+walk-thin pen w b e l p = record {
+  walk = rw (p .chain, l .chain, l .closing, e);
+  made = lays-to (p .at) (lays-as (emitted-thin (pen .step) w b e) (l .made));
+}
 
 -- ---- what the limits leave of chains
 

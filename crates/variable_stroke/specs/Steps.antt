@@ -34,6 +34,11 @@ pub record Extends (l₀ : List ℤ) (at : ℕ) (pen : Pen) (c : Chain) (s : Sec
   pub chain : r .chain ≡ markedOf c (Held s)
   pub made : Lays (pen .step) (pen .folds) l₀ at (drawnOf (pen .step) c s) l₁ (r .at)
 
+-- a chain after a thin step: no edges
+pub record Marks (a₀ : ℕ) (c : Chain) (r : Stepped) : Type 0 where
+  pub chain : r .chain ≡ markedOf c (c .last)
+  pub at : r .at ≡ a₀
+
 -- a chain that a covered vertex may have ended
 pub record Leaves (l₀ : List ℤ) (at : ℕ) (pen : Pen) (w : Walk) (b : Vertex) (l₁ : List ℤ) (r : Left) : Type 0 where
   pub chain : r .chain ≡ leaveChain w b

@@ -27,7 +27,7 @@ ghost use Rattle.contacts.specs.Contacts.{kindOf};
 ghost use Rattle.variable_stroke.specs.Chains.{freshOf, bothButt, loneOf, finishOf, meetLast, drawnOf, breakEnd, breakStart, leaveEdges, emittedOf, startOf};
 ghost use Rattle.contacts.specs.Bounds.{Inside, Around};
 ghost use Rattle.variable_stroke.specs.Bounds.{AroundChain, AroundWalk};
-ghost use Rattle.variable_stroke.specs.Steps.{Finishes, Starts, Extends, Leaves, Strides, Walks};
+ghost use Rattle.variable_stroke.specs.Steps.{Finishes, Starts, Extends, Marks, Leaves, Strides, Walks};
 ghost use Rattle.contacts.specs.declared.Kind.the-variants.{Broken, Drawn, Thin};
 
 // A chain, and where the output has come to.
@@ -93,7 +93,7 @@ impl Chain {
     }
 
     // What ends the chain.
-    pub fn end(self, out: &mut [i32], at: usize, pen: Pen, cap: Cap) -> usize
+    fn end(self, out: &mut [i32], at: usize, pen: Pen, cap: Cap) -> usize
         requires { ⌜ UnitLong (pen .step) × AroundChain self ⌝ }
         requires { ⌜ Room edgeNumbers at (finishOf (pen .step) self cap) ⌝ }
         ensures { λ n. ⌜ Lays (pen .step) (pen .folds) (now (out .entry)) at (finishOf (pen .step) self cap) (now (out .exit)) n ⌝ }
@@ -153,7 +153,7 @@ impl Chain {
         self.meet(out, m, pen, s)
     }
 
-    // A step made: the mark is set, and a drawn section becomes the last.
+    // A drawn step made: the mark is set, and its section becomes the last.
     pub fn step(mut self, out: &mut [i32], at: usize, pen: Pen, s: Section) -> Stepped
         requires { ⌜ UnitLong (pen .step) × AroundChain self × Around s ⌝ }
         requires { ⌜ Room edgeNumbers at (drawnOf (pen .step) self s) ⌝ }
@@ -169,6 +169,17 @@ impl Chain {
             mark: true,
         };
         Stepped { chain: self, at: n }
+    }
+
+    // A thin step made: the mark is set, the last section stays, and nothing is drawn.
+    pub fn thin(mut self, at: usize) -> Stepped
+        ensures { λ r. ⌜ Marks at self r ⌝ }
+    {
+        self.mark = true;
+        Stepped {
+            chain: self,
+            at: at,
+        }
     }
 }
 
@@ -284,17 +295,18 @@ impl Walk {
         ensures { λ r. ⌜ Strides (now (out .entry)) at pen self b (now (out .exit)) r ⌝ }
     {
         let left = self.leave(out, at, pen, b);
+        let chain = left.chain;
         let closing = left.closing;
-        let mut chain = left.chain;
-        chain.mark = true;
+        let stepped = chain.thin(left.at);
+        let next = stepped.chain;
         Walked {
             walk: Walk {
                 at: b,
-                chain: chain,
+                chain: next,
                 previous: Last::Nothing,
                 closing: closing,
             },
-            at: left.at,
+            at: stepped.at,
         }
     }
 
@@ -338,6 +350,7 @@ impl Walk {
             step: t,
             folds: false,
         };
-        chain.end(out, at, pen, closing)
+        let ended = chain.finish(out, at, pen, closing);
+        ended.at
     }
 }
