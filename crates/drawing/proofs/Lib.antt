@@ -1,3 +1,4 @@
 -- The crate's own laws.
 pub mod DrawAnswers
 pub mod OneDrawing
+pub mod PathDrawn

@@ -1,11 +1,11 @@
 -- Document 01, "Replies, tested in this order": draw, its answer and its promise.
 use mathlib.Core.List.{List, [], _∷_, _++_}
-use Prim.Native.Nat.{ℕ, _+_, _*_}
+use Prim.Native.Nat.{ℕ, _*_, _%_, _≤_}
 use lib.IntN.{ℤ}
 use lib.ListN.{length}
 use Rattle.runs.specs.Runs.{spread}
 use Rattle.turning.specs.Edges.{edgeNumbers}
-use Rattle.paths.specs.Paths.{pathOf, edgesOf}
+use Rattle.paths.specs.Paths.{pathOf, edgesOf, Within}
 use mathlib.Core.Path.{_≡_}
 use Rattle.replies.specs.Replies.{Reply, firstRow, roomRow, pathRows, written}
 use Rattle.drawing.specs.declared.Drawn.{Drawn}
@@ -31,6 +31,11 @@ replyOfDrawn (drawn.Refused r) = refusalOf r
 pub record Draws (path : List ℤ) (grade : ℕ) (out₀ : List ℤ) (answer : Drawn) (out₁ : List ℤ) : Type 0 where
   pub reply : replyOfDrawn answer ≡ drawReply path grade (length out₀)
   pub out : out₁ ≡ drawOut path grade out₀
+
+-- Numbers lent as triples, a grade, vertices within the limits and room enough are drawn.
+abbrev pub PathIsDrawn : Type 0
+PathIsDrawn = (path : List ℤ) (g room : ℕ) → length path % 3 ≡ 0 → Within g (pathOf path) → 4 * length (edgesOf g (pathOf path)) ≤ room
+    → drawReply path g room ≡ (0, length (edgesOf g (pathOf path)))
 
 -- Each call has one outcome: two that its promise allows coincide.
 abbrev pub OneDrawing : Type 0

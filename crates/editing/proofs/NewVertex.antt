@@ -17,7 +17,7 @@ use Rattle.whole.proofs.Sizes.{size-fits}
 use Rattle.runs.specs.Runs.{spread, over, Runs, put}
 use Rattle.plane.proofs.Products.{bits, back}
 use Rattle.contacts.specs.Bounds.{Inside}
-use Rattle.contacts.specs.Limits.{allowedOf, firstOutside}
+use Rattle.contacts.specs.Limits.{allowedOf}
 use Rattle.paths.specs.Paths.{pathOf, vertexNumbers, pathNumbers, Within}
 use Rattle.contacts.specs.declared.Vertex.{Vertex}
 use Rattle.outline.specs.Layout.{lengthOf}
@@ -38,7 +38,7 @@ use Rattle.editing.specs.declared.Replaced.the-variants as replaced
 use Rattle.outline.proofs.ReadBack.{path-count-in, numbers-count}
 use Rattle.editing.proofs.Changed.{within-changed}
 use Rattle.replies.proofs.Rows.{rows-append, refused-written}
-use Rattle.replies.proofs.PathChecks.{passes}
+use Rattle.replies.proofs.PathChecks.{within-fits}
 use Rattle.checking.proofs.Shown.{path-back}
 use Rattle.outline.proofs.Parts.{radius-size}
 
@@ -84,13 +84,12 @@ vertex-put {at = at} v h ex ey er p q s =
 -- ---- within the limits
 
 -- the numbers of a path within the limits pass the rows of a path
-pub numbers-fit : (g : ℕ) (vs : List Vertex) (p : List ℤ) {n : ℕ} → p ≡ pathNumbers vs → n ≡ length vs → Within g vs → Fits p g n
+numbers-fit : (g : ℕ) (vs : List Vertex) (p : List ℤ) {n : ℕ} → p ≡ pathNumbers vs → n ≡ length vs → Within g vs → Fits p g n
 numbers-fit g vs p {n} e en h =
     let q : pathOf p ≡ vs = ap pathOf e ∙ path-back vs in
     let l : length p ≡ 3 * length vs = ap length e ∙ numbers-count vs in
     let c : length p / 3 ≡ n = omega arith in
-    let i : firstOutside (pathOf p) ≡ length vs = ap firstOutside q ∙ h .inside in
-    rw c at (passes p g (omega arith) (h .low) (h .high) (omega (arith, h .count)) {i = firstOutside (pathOf p)} refl (omega arith) .fits _ refl)
+    rw c at (within-fits p {g = g} (omega arith) (rw q h))
 
 -- ---- the rows of a change
 

@@ -1,9 +1,11 @@
 -- Document 01, "Replies, tested in this order": replace, its answer, its promise, and how far a replacement reaches.
 use mathlib.Core.Bool.{true}
 use mathlib.Core.List.{List, [], _∷_, _++_}
-use Prim.Native.Nat.{ℕ, _+_, _-_, _<_}
+use Prim.Native.Nat.{ℕ, _+_, _-_, _≤_, _<_}
 use lib.ListN.{length, drop, set, replicate, take}
+use Rattle.contacts.specs.Limits.{allowedOf}
 use Rattle.contacts.specs.declared.Vertex.{Vertex}
+use Rattle.paths.specs.Paths.{Within}
 use Rattle.outline.specs.Outlines.{outlineBytes}
 use Rattle.outline.specs.Stores.{gradeIn, lengthIn, pathIn, soundOf, bodiesIn}
 use mathlib.Core.Path.{_≡_}
@@ -37,6 +39,12 @@ replyOfReplaced (replaced.Refused r) = refusalOf r
 pub record Replaces (store₀ : List ℕ) (index : ℕ) (v : Vertex) (answer : Replaced) (store₁ : List ℕ) : Type 0 where
   pub reply : replyOfReplaced answer ≡ replaceReply store₀ index v
   pub store : store₁ ≡ replaceOut store₀ index v
+
+-- An outline, whatever bytes stand after it, takes any vertex within the limits in place of one of its own, where there is room for the outline with it.
+abbrev pub KeptIsReplaced : Type 0
+KeptIsReplaced = (g : ℕ) (vs : List Vertex) (rest : List ℕ) (k : ℕ) (v : Vertex) → Within g vs → k < length vs → allowedOf v ≡ true
+    → length (outlineBytes g (set vs k v)) ≤ length (outlineBytes g vs ++ rest)
+    → replaceReply (outlineBytes g vs ++ rest) k v ≡ (0, length (outlineBytes g (set vs k v)))
 
 -- A store in which a vertex was replaced is sound again, with the same grade and the path with that vertex.
 abbrev pub ReplacedIsSound : Type 0

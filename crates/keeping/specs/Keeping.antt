@@ -1,9 +1,9 @@
 -- Document 01, "Replies, tested in this order": keep, its answer and its promise.
 use mathlib.Core.List.{List, [], _∷_, _++_}
-use Prim.Native.Nat.{ℕ, _+_}
+use Prim.Native.Nat.{ℕ, _%_, _≤_}
 use lib.IntN.{ℤ}
-use lib.ListN.{length}
-use Rattle.paths.specs.Paths.{pathOf}
+use lib.ListN.{length, take}
+use Rattle.paths.specs.Paths.{pathOf, Within}
 use Rattle.outline.specs.Outlines.{outlineBytes}
 use mathlib.Core.Path.{_≡_}
 use Rattle.replies.specs.Replies.{Reply, firstRow, roomRow, pathRows, written}
@@ -28,6 +28,17 @@ replyOfKept (kept.Refused r) = refusalOf r
 pub record Keeps (path : List ℤ) (grade : ℕ) (out₀ : List ℕ) (answer : Kept) (out₁ : List ℕ) : Type 0 where
   pub reply : replyOfKept answer ≡ keepReply path grade (length out₀)
   pub out : out₁ ≡ keepOut path grade out₀
+
+-- Numbers lent as triples, a grade, vertices within the limits and room enough are kept.
+abbrev pub PathIsKept : Type 0
+PathIsKept = (path : List ℤ) (g room : ℕ) → length path % 3 ≡ 0 → Within g (pathOf path) → length (outlineBytes g (pathOf path)) ≤ room
+    → keepReply path g room ≡ (0, length (outlineBytes g (pathOf path)))
+
+-- A path and grade keep to one outline: what was kept in one room is kept in any other that holds it, in the same bytes.
+abbrev pub OneOutlineKept : Type 0
+OneOutlineKept = (path : List ℤ) (g m : ℕ) (a b : List ℕ) → keepReply path g (length a) ≡ (0, m) → m ≤ length b
+    → (keepReply path g (length b) ≡ (0, m))
+    × (take m (keepOut path g b) ≡ take m (keepOut path g a))
 
 abbrev pub OneKeeping : Type 0
 OneKeeping = (path : List ℤ) (g : ℕ) (out : List ℕ) (r q : Kept) (o p : List ℕ) → Keeps path g out r o → Keeps path g out q p → (r ≡ q) × (o ≡ p)

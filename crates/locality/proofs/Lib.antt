@@ -1,2 +1,3 @@
--- The proof of it.
+-- The proofs of it.
 pub mod Locality
+pub mod FirstSettled

@@ -2,7 +2,7 @@
 use mathlib.Core.Path.{_≡_}
 use mathlib.Core.Bool.{Bool, true, false}
 use mathlib.Core.List.{List, [], _∷_}
-use Prim.Native.Nat.{ℕ, suc, _+_, _<_}
+use Prim.Native.Nat.{ℕ, suc, _+_, _-_, _≤_, _<_}
 use lib.ListN.{length, getD, take, drop, set}
 use Rattle.plane.specs.declared.Vector.{Vector}
 use Rattle.contacts.specs.Contacts.{kindOf}
@@ -74,6 +74,17 @@ thinRun (a ∷ bs) = thinFrom a bs
 -- j: the first vertex at k + 2 or later reached by a drawn or broken step
 unfoldable pub reachOf : List Vertex → ℕ → ℕ
 reachOf vs k = k + 2 + thinRun (drop (k + 1) vs)
+
+-- Document 01, "Three kinds of step": whether vertex i is reached by a step that is drawn or broken.
+unfoldable pub settledTo : List Vertex → ℕ → Bool
+settledTo vs i = settles (kindOf (getD vs (i - 1) none) (getD vs i none))
+
+-- j is the first: no vertex from k + 2 on and before j is so reached, and j is, unless it is past the path.
+abbrev pub ReachIsFirst : Type 0
+ReachIsFirst = (vs : List Vertex) (k : ℕ)
+    → (k + 2 ≤ reachOf vs k)
+    × ((i : ℕ) → k + 2 ≤ i → i < reachOf vs k → settledTo vs i ≡ false)
+    × (reachOf vs k < length vs → settledTo vs (reachOf vs k) ≡ true)
 
 -- With another vertex at k, every body after j stays as it was, and the closing body too, unless j is the last vertex.
 abbrev pub ReachKept : Type 0

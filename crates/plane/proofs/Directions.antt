@@ -11,10 +11,10 @@ use lib.Signed.{ltZ, quotZ}
 use Rattle.whole.proofs.Squares.{square-le, square-lt, four-power, scaled-square, rotated-sizes}
 use Rattle.whole.proofs.Division.{quot-most}
 use Rattle.number.specs.MulDiv.{withSign, mulDivOf}
-use Rattle.number.proofs.Roots.{root-is, root-only}
+use Rattle.number.proofs.Roots.{root-is, root-is-largest, root-only}
 use Rattle.number.proofs.Nearest.{mul-div-by, nearest-most, sign-size}
 use Rattle.plane.specs.Vectors.{Short, squareOf}
-use Rattle.plane.specs.Directions.{partOf, componentOf, directionOf, stepOf, rotatedOf, UnitLong}
+use Rattle.plane.specs.Directions.{partOf, componentOf, ComponentIsLargest, directionOf, stepOf, rotatedOf, UnitLong}
 use Rattle.plane.specs.Swings.{Settles, Measures}
 use Rattle.plane.proofs.Products.{bits, back, short-fits}
 use mir.Syntax.{w64}
@@ -37,6 +37,10 @@ part-only c s n h l u =
 pub part-low : (c s : ℕ) → 0 < s → partOf c s * partOf c s * s ≤ c * c * 2 ^ 60
 unfolding partOf
 part-low c s h = le-div-iff-mul-le {k = s} {x = partOf c s * partOf c s} {y = c * c * 2 ^ 60} h .0 (root-is (c * c * 2 ^ 60 / s) .low)
+
+part-high : (c s : ℕ) → 0 < s → (n : ℕ) → n * n * s ≤ c * c * 2 ^ 60 → n ≤ partOf c s
+unfolding partOf
+part-high c s h n l = root-is-largest (c * c * 2 ^ 60 / s) .1 n (le-div-iff-mul-le {k = s} {x = n * n} {y = c * c * 2 ^ 60} h .1 l)
 
 -- and at most 2 ^ 30
 pub part-most : (c s n : ℕ) → 0 < s → c * c ≤ s → n * n * s ≤ c * c * 2 ^ 60 → n ≤ 2 ^ 30
@@ -74,6 +78,9 @@ module _ (c s k : ℕ) (h : c * c ≤ s) (f : s * 4 ^ k < 2 ^ 64) where
 component-size : (c : ℤ) (s : ℕ) → natAbs (componentOf c s) ≡ partOf (natAbs c) s
 unfolding componentOf
 component-size c s = sign-size (ltZ c (pos 0)) (partOf (natAbs c) s)
+
+pub component-is-largest : ComponentIsLargest
+component-is-largest c s h = rw (component-size c s) (part-low (natAbs c) s h, part-high (natAbs c) s h)
 
 -- the squares of its components add to at most 2 ^ 60
 pub direction-unit : (v : Vector) → 0 < squareOf v → UnitLong (directionOf v)

@@ -1,5 +1,5 @@
 -- Document 01, "Numbers underneath": directions, the steps of the grades, rotation and scaling.
-use Prim.Native.Nat.{ℕ, _+_, _-_, _*_, _/_, _^_, _≤_}
+use Prim.Native.Nat.{ℕ, _+_, _-_, _*_, _/_, _^_, _≤_, _<_}
 use lib.IntN.{ℤ, pos, natAbs, _+ℤ_, _-ℤ_, _*ℤ_}
 use lib.Signed.{ltZ, quotZ}
 use Rattle.number.specs.Root.{rootOf}
@@ -8,13 +8,19 @@ use Rattle.plane.specs.Vectors.{squareOf}
 use Rattle.plane.specs.declared.Point.{Point}
 use Rattle.plane.specs.declared.Vector.{Vector}
 
--- The size of a direction's component, from that of the coordinate c and the vector's squared length s: the largest n with n²·s ≤ c²·2^60.
+-- The size of a direction's component, from that of the coordinate c and the vector's squared length s.
 unfoldable pub partOf : ℕ → ℕ → ℕ
 partOf c s = rootOf (c * c * 2 ^ 60 / s)
 
 -- Each component has the sign of its coordinate.
 unfoldable pub componentOf : ℤ → ℕ → ℤ
 componentOf c s = withSign (ltZ c (pos 0)) (partOf (natAbs c) s)
+
+-- Its size is the largest n with n²·s ≤ c²·2^60.
+abbrev pub ComponentIsLargest : Type 0
+ComponentIsLargest = (c : ℤ) (s : ℕ) → 0 < s
+    → (natAbs (componentOf c s) * natAbs (componentOf c s) * s ≤ natAbs c * natAbs c * 2 ^ 60)
+    × ((n : ℕ) → n * n * s ≤ natAbs c * natAbs c * 2 ^ 60 → n ≤ natAbs (componentOf c s))
 
 -- Direction of a non-zero (x, y).
 unfoldable pub directionOf : Vector → Vector

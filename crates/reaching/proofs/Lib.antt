@@ -1,6 +1,5 @@
 -- The crate's own laws.
 pub mod Reaches
 pub mod StoreReach
-pub mod FirstSettled
 pub mod OneOutcome
 pub mod TheNumber

@@ -18,7 +18,7 @@ use Rattle.contacts.specs.declared.Vertex.{Vertex}
 use Rattle.contacts.specs.declared.Kind.{Kind}
 use Rattle.contacts.proofs.Allowed.{inside-of}
 use Rattle.paths.proofs.PathWalk.{allowed-at}
-use Rattle.reaching.specs.Steps.{reachedOf}
+use Rattle.reaching.specs.Replies.{reachedOf}
 
 -- each vertex of a path within the limits is within them
 pub inside-at : (vs : List Vertex) (k : ℕ) {v : Vertex} → firstOutside vs ≡ length vs → k < length vs → v ≡ getD vs k none → Inside v

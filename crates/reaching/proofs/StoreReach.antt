@@ -22,8 +22,7 @@ use Rattle.checking.proofs.Shown.{path-back}
 use Rattle.checking.proofs.StoreReads.{store-refuses, store-passes, header-count}
 use Rattle.editing.proofs.KnownStore.{known}
 use Rattle.editing.proofs.NewVertex.{known-few}
-use Rattle.reaching.specs.Steps.{reachedOf}
-use Rattle.reaching.specs.Replies.{reachReply, replyOfReached, Reaches}
+use Rattle.reaching.specs.Replies.{reachedOf, reachReply, replyOfReached, Reaches}
 use Rattle.reaching.specs.declared.Reached.{Reached}
 use Rattle.reaching.specs.declared.Reached.the-variants.{To, Refused}
 

@@ -1,22 +1,30 @@
--- What the number with reply 0 says: no row held, so it is the path's own, and the reach where that lies in the path. Assumes nothing.
+-- Of what is kept no row holds; and where none held the number with reply 0 is the path's own, the reach where that lies in the path. Assumes nothing.
 use mathlib.Core.Path.{_≡_, refl, sym, ap, _∙_}
 use mathlib.Core.Bool.{Bool, true, false}
-use mathlib.Core.List.{List, [], _∷_, _++_, append-nil}
+use mathlib.Core.List.{List, [], _∷_, _++_}
 use Prim.Native.Nat.{ℕ, _≤_, _<_}
 use native.Mathlib.Omega.{arith}
-use borrow.Author.Tests.{ltb-true, ltb-false}
+use borrow.Author.Tests.{ltb-true, ltb-false, lt-leb}
 use lib.Dec.{ltb}
 use lib.ListN.{length}
 use Rattle.locality.specs.Local.{reachOf}
 use Rattle.contacts.specs.declared.Vertex.{Vertex}
+use Rattle.outline.specs.Outlines.{outlineBytes}
 use Rattle.outline.specs.Stores.{pathIn}
+use Rattle.outline.proofs.ReadBack.{vertices-back}
 use Rattle.replies.specs.Replies.{Reply, Row, firstRow, gradeRow, countRow, outsideRow, indexRow}
 use Rattle.checking.specs.StoreRows.{editionRow, kindRow, lengthRow, soundRow, storeRows}
-use Rattle.replies.proofs.Rows.{first-skip, first-none}
-use Rattle.reaching.specs.Steps.{reachedOf}
-use Rattle.reaching.specs.Replies.{reachReply}
-use Rattle.reaching.specs.Theorems.{NumberIsFirst}
-use Rattle.reaching.proofs.FirstSettled.{reach-is-first}
+use Rattle.checking.proofs.KeptStore.{store-none}
+use Rattle.replies.proofs.Rows.{first-skip, none-last, first-none}
+use Rattle.reaching.specs.Replies.{reachedOf, reachReply}
+use Rattle.reaching.specs.Theorems.{KeptIsReached, NumberIsFirst}
+use Rattle.locality.proofs.FirstSettled.{reach-is-first}
+
+pub kept-is-reached : KeptIsReached
+unfolding reachReply indexRow firstRow
+kept-is-reached g vs rest k w h =
+    first-skip (storeRows (outlineBytes g vs ++ rest)) _ _ (store-none g vs rest w)
+    ∙ rw (vertices-back g vs rest w, lt-leb (length vs) k h, firstRow, vertices-back g vs rest w)
 
 pub number-is : (s : List ℕ) (k j : ℕ) → reachReply s k ≡ (0, j) → j ≡ reachedOf (pathIn s) k
 unfolding reachReply storeRows editionRow kindRow gradeRow countRow lengthRow outsideRow soundRow indexRow firstRow
@@ -24,8 +32,7 @@ number-is s k j e =
     let rows : List Row = storeRows s ++ (indexRow (length (pathIn s)) k ∷ []) in
     let last : Reply = (0, reachedOf (pathIn s) k) in
     let none = first-none rows last (refl, (refl, (refl, (refl, (refl, (refl, (refl, (refl, tt)))))))) (ap (λ (r : Reply). r .0) e) in
-    let f : firstRow rows last ≡ last = ap (λ (l : List Row). firstRow l last) (sym (append-nil rows)) ∙ first-skip rows [] last none in
-    ap (λ (r : Reply). r .1) (sym e ∙ f)
+    ap (λ (r : Reply). r .1) (sym e ∙ none-last rows last none)
 
 -- which is the lesser of the reach and the number of vertices
 pub lesser : (vs : List Vertex) (k : ℕ) → (reachedOf vs k ≤ length vs) × (reachedOf vs k ≤ reachOf vs k) × (reachedOf vs k < length vs → reachedOf vs k ≡ reachOf vs k)

@@ -1,4 +1,3 @@
 -- How far another vertex in a kept outline can reach: what the contracts cite, and the theorems over the definitions.
-pub mod Steps
 pub mod Replies
 pub mod Theorems

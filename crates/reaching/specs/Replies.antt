@@ -1,17 +1,24 @@
 -- Document 01, "Replies, tested in this order", for the call that tells how far a replaced vertex reaches: replace's rows of the store and the index.
 use mathlib.Core.Path.{_≡_}
+use mathlib.Core.Bool.{true, false}
 use mathlib.Core.List.{List, [], _∷_, _++_}
 use Prim.Native.Nat.{ℕ}
+use lib.Dec.{ltb}
 use lib.ListN.{length}
+use Rattle.contacts.specs.declared.Vertex.{Vertex}
+use Rattle.locality.specs.Local.{reachOf}
 use Rattle.outline.specs.Stores.{pathIn}
 use Rattle.replies.specs.Replies.{Reply, firstRow, indexRow}
 use Rattle.checking.specs.StoreRows.{storeRows}
 use Rattle.replies.specs.Refusals.{refusalOf}
-use Rattle.reaching.specs.Steps.{reachedOf}
 use Rattle.reaching.specs.declared.Reached.{Reached}
 use Rattle.reaching.specs.declared.Reached.the-variants.{To, Refused}
 
--- 6, 7, 3, 2, 6, 4, 8 of the store, 9 of the index; else 0 with demand 3's j, or with the number of vertices where there is none.
+-- Demand 3's j for vertex k, or the number of vertices where there is none.
+unfoldable pub reachedOf : List Vertex → ℕ → ℕ
+reachedOf vs k = elim (ltb (reachOf vs k) (length vs)) [ true ↦ reachOf vs k | false ↦ length vs ]
+
+-- 6, 7, 3, 2, 6, 4, 8 of the store, 9 of the index; else 0 with that number.
 unfoldable pub reachReply : List ℕ → ℕ → Reply
 reachReply s k = firstRow (storeRows s ++ (indexRow (length (pathIn s)) k ∷ [])) (0, reachedOf (pathIn s) k)
 

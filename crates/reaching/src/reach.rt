@@ -11,8 +11,7 @@ ghost use lib.ListN.{length, take};
 ghost use Rattle.contacts.specs.Limits.{firstOutside};
 ghost use Rattle.paths.specs.Paths.{pathOf};
 ghost use Rattle.replies.specs.Replies.{firstRow, indexRow};
-ghost use Rattle.reaching.specs.Steps.{reachedOf};
-ghost use Rattle.reaching.specs.Replies.{replyOfReached, Reaches};
+ghost use Rattle.reaching.specs.Replies.{reachedOf, replyOfReached, Reaches};
 
 // The row of the index, and the reach, over the path of n vertices at the front of `path`.
 fn reach_in(path: &[i32], n: usize, index: usize) -> Reached

@@ -9,7 +9,7 @@ ghost use Rattle.contacts.specs.Limits.{firstOutside};
 ghost use Rattle.contacts.specs.Contacts.{kindOf};
 ghost use Rattle.paths.specs.Paths.{pathOf, none};
 ghost use Rattle.locality.specs.Local.{settles, reachOf};
-ghost use Rattle.reaching.specs.Steps.{reachedOf};
+ghost use Rattle.reaching.specs.Replies.{reachedOf};
 
 // Whether a step of this kind settles what is seen after it: a drawn or a broken one does.
 fn settled(kind: Kind) -> bool

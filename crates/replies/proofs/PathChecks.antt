@@ -1,5 +1,5 @@
 -- The rows of a path, one law for each outcome of its tests; and what a walk over a path that passed comes to. Assumes nothing.
-use mathlib.Core.Path.{_≡_, sym, ap, _∙_}
+use mathlib.Core.Path.{_≡_, refl, sym, ap, _∙_}
 use mathlib.Core.List.{List, _++_}
 use Prim.Native.Nat.{ℕ, _+_, _*_, _/_, _%_, _≤_, _<_}
 use native.Mathlib.Nat.{le-antisymm}
@@ -14,7 +14,7 @@ use Rattle.turning.specs.Edges.{edgeNumbers}
 use Rattle.turning.proofs.Most.{edges-four}
 use Rattle.turning.specs.declared.Edge.{Edge}
 use Rattle.contacts.specs.Limits.{firstOutside}
-use Rattle.paths.specs.Paths.{pathOf, bodiesAt, bodiesOf, joined, edgesOf}
+use Rattle.paths.specs.Paths.{pathOf, bodiesAt, bodiesOf, joined, edgesOf, Within}
 use Rattle.paths.proofs.Most.{edges-most}
 use Rattle.paths.proofs.PathWalk.{path-count}
 use Rattle.contacts.specs.declared.Vertex.{Vertex}
@@ -84,6 +84,12 @@ module _ (path : List ℤ) (g : ℕ) where
                   passed = says;
                 };
               }
+
+-- numbers lent as triples whose path is within the limits pass
+pub within-fits : (path : List ℤ) {g : ℕ} → length path % 3 ≡ 0 → Within g (pathOf path) → Fits path g (length path / 3)
+within-fits path {g} h w =
+    let e : firstOutside (pathOf path) ≡ length path / 3 = w .inside ∙ path-count path in
+    passes path g h (w .low) (w .high) (omega (arith, path-count path, w .count)) {i = firstOutside (pathOf path)} refl (omega arith) .fits _ refl
 
 -- ---- drawing a path that passed
 

@@ -21,6 +21,12 @@ unfolding firstRow
 first-skip [] more last h = refl
 first-skip (row ∷ rows) more last h = rw (h .0, firstRow) (first-skip rows more last (h .1))
 
+-- where none holds the last word is the reply
+pub none-last : (rows : List Row) (last : Reply) → NoneHold rows → firstRow rows last ≡ last
+unfolding firstRow
+none-last [] last h = refl
+none-last (row ∷ rows) last h = rw (h .0, firstRow) (none-last rows last (h .1))
+
 -- rows after rows: where no earlier row holds the later ones reply
 pub rows-append : (rs qs : List Row) (last : Reply) → firstRow (rs ++ qs) last ≡ firstRow rs (firstRow qs last)
 unfolding firstRow

@@ -2,11 +2,10 @@
 -- outlines holds of it. Assumes nothing.
 use mathlib.Core.Path.{_≡_, refl, sym, ap, _∙_}
 use mathlib.Core.Bool.{true}
-use mathlib.Core.List.{List, [], _∷_, _++_, append-assoc, append-nil}
+use mathlib.Core.List.{List, [], _∷_, _++_, append-assoc}
 use Prim.Native.Nat.{ℕ, _+_, _-_, _*_, _%_, _≤_, _<_}
-use native.Mathlib.Nat.{le-antisymm}
 use native.Mathlib.Omega.{arith}
-use borrow.Author.Tests.{eqb-true, ltb-false, leb-false, not-false}
+use borrow.Author.Tests.{leb-false}
 use lib.IntN.{ℤ}
 use lib.ListN.{length, getD, take, drop, set, replicate, take-append-drop, length-append, length-replicate, length-set}
 use lib.Seq.{getD-take, getD-drop, take-at, drop-at}
@@ -18,19 +17,18 @@ use Rattle.turning.specs.declared.Edge.{Edge}
 use Rattle.words.specs.Words.{bytesOf}
 use Rattle.outline.specs.Outlines.{bodyWords, outlineBytes}
 use Rattle.outline.specs.Stores.{gradeIn, lengthIn, pathIn, dueIn, bodiesIn, soundOf, bodyBytesIn}
-use Rattle.replies.specs.Replies.{Reply, Row, firstRow, triplesRow, gradeRow, countRow, outsideRow, roomRow, indexRow, pathRows, written}
+use Rattle.replies.specs.Replies.{Reply, indexRow}
 use Rattle.checking.specs.StoreRows.{storeRows}
 use Rattle.keeping.specs.Keeping.{keepReply, keepOut}
 use Rattle.editing.specs.Replacing.{replacedOf, replaceReply, replaceOut}
 use Rattle.theorems.specs.Theorems.{KeepRead, ReplacedIsKept, BytesKept, NumberKeeps}
 use Rattle.outline.specs.Theorems.{BodyBytes}
-use Rattle.replies.proofs.Rows.{NoneHold, first-skip, first-none, either, rows-append, room-enough, done-written}
+use Rattle.replies.proofs.Rows.{none-last}
+use Rattle.keeping.proofs.PathKept.{path-is-kept, keep-triples, keep-within, keep-out}
 use Rattle.reading.proofs.KeptRead.{kept-is-read}
 use Rattle.outline.proofs.ReadBack.{numbers-count}
-use Rattle.contacts.proofs.Allowed.{outside-most}
 use Rattle.editing.proofs.Changed.{replace-none, within-store, within-set, sound-store, out-is, replaced-is-sound, store-kept}
 use Rattle.checking.proofs.Shown.{path-back}
-use Rattle.editing.proofs.NewVertex.{numbers-fit}
 use Rattle.checking.proofs.FirstByte.{same-is}
 use Rattle.outline.proofs.BodiesInBytes.{body-bytes}
 use Rattle.reaching.proofs.TheNumber.{number-is, lesser}
@@ -81,26 +79,6 @@ numbers-back (x ∷ []) h = absurd (omega arith)
 numbers-back (x ∷ y ∷ []) h = absurd (omega arith)
 numbers-back (x ∷ y ∷ r ∷ l) h = ap (λ (m : List ℤ). x ∷ y ∷ r ∷ m) (numbers-back l (omega arith))
 
-module _ (path : List ℤ) (g room : ℕ) (h : keepReply path g room .0 ≡ 0) where
-  keep-none : NoneHold (pathRows path g ++ (roomRow (length (outlineBytes g (pathOf path))) room (length (outlineBytes g (pathOf path))) ∷ []))
-  unfolding keepReply pathRows triplesRow gradeRow countRow outsideRow roomRow
-  keep-none = first-none _ _ (refl, (refl, (refl, (refl, (refl, tt))))) h
-
-  keep-triples : length path % 3 ≡ 0
-  unfolding pathRows triplesRow
-  keep-triples = eqb-true _ _ (not-false _ (keep-none .0))
-
-  keep-within : Within g (pathOf path)
-  unfolding pathRows gradeRow countRow outsideRow
-  keep-within =
-      let r = keep-none in
-      let e = either _ _ (r .1 .0) in
-      record { low = ltb-false _ _ (e .0); high = ltb-false _ _ (e .1); count = ltb-false _ _ (r .1 .1 .0); inside = le-antisymm (outside-most (pathOf path)) (ltb-false _ _ (r .1 .1 .1 .0)) }
-
-keep-out : (path : List ℤ) (g : ℕ) (out : List ℕ) → keepReply path g (length out) .0 ≡ 0 → keepOut path g out ≡ outlineBytes g (pathOf path) ++ drop (length (outlineBytes g (pathOf path))) out
-unfolding keepOut written
-keep-out path g out h = rw (h, written)
-
 pub keep-read : KeepRead
 keep-read path g out room h l =
     let vs = pathOf path in
@@ -111,17 +89,12 @@ keep-read path g out room h l =
 
 -- ---- a replaced store and keep
 
--- where no row held the reply is the last word
-none-last : (rows : List Row) (last : Reply) → NoneHold rows → firstRow rows last ≡ last
-unfolding firstRow
-none-last rows last h = ap (λ (rs : List Row). firstRow rs last) (sym (append-nil rows)) ∙ first-skip rows [] last h
-
 replaced-long : (s : List ℕ) (k : ℕ) (v : Vertex) {m : ℕ} → replaceReply s k v ≡ (0, m) → m ≡ length (replacedOf s k v)
 unfolding replaceReply
 replaced-long s k v e = ap (λ (r : Reply). r .1) (sym e ∙ none-last _ _ (replace-none s k v (ap (λ (r : Reply). r .0) e)))
 
 pub replaced-is-kept : ReplacedIsKept
-unfolding keepReply keepOut replacedOf
+unfolding replacedOf
 replaced-is-kept s k v room m z h e l =
     let h₀ : replaceReply s k v .0 ≡ 0 = ap (λ (r : Reply). r .0) h in
     let g = gradeIn s in
@@ -131,16 +104,17 @@ replaced-is-kept s k v room m z h e l =
     let zeros = replicate {A = ℕ} z 0 in
     let n : length new ≡ m = sym (replaced-long s k v h) in
     let p : pathOf path ≡ vs = path-back vs in
-    let fit = numbers-fit g vs path refl refl (within-set s k v h₀) in
+    let b : outlineBytes g (pathOf path) ≡ new = rw p in
+    let q : length path % 3 ≡ 0 = omega (arith, numbers-count vs) in
     let kr : keepReply path g (length room) ≡ (0, m) =
-    rows-append (pathRows path g) _ _ ∙ fit .passed _ ∙ rw p (room-enough (length new) (length room) (length new) (0, length new) (omega arith) ∙ ap (λ (x : ℕ). (0, x)) n) in
-    let ko : keepOut path g room ≡ new ++ drop (length new) room = sym (done-written m (outlineBytes g (pathOf path)) room (sym kr)) ∙ rw p refl in
+    path-is-kept path g (length room) q (rw p (within-set s k v h₀)) (omega (arith, ap length b)) ∙ ap (λ (x : ℕ). (0, x)) (ap length b ∙ n) in
+    let ko : keepOut path g room ≡ new ++ drop (length new) room = rw b at (keep-out path g room (ap (λ (r : Reply). r .0) kr)) in
     let ro : replaceOut s k v ≡ new ++ (zeros ++ drop (length (new ++ zeros)) s) = rw (e, ← n) (out-is s k v h₀) in
-    let q : length (new ++ zeros) ≡ m + z = omega (arith, length-append new zeros, length-replicate {A = ℕ} z 0) in (
+    let t : length (new ++ zeros) ≡ m + z = omega (arith, length-append new zeros, length-replicate {A = ℕ} z 0) in (
       kr,
       ap (take m) ro ∙ take-at new _ m n ∙ sym (ap (take m) ko ∙ take-at new _ m n),
       ap (λ (x : List ℕ). take z (drop m x)) ro ∙ ap (take z) (drop-at new _ m n) ∙ take-at zeros _ z (length-replicate {A = ℕ} z 0),
-      ap (drop (m + z)) (ro ∙ sym (append-assoc new zeros _)) ∙ drop-at (new ++ zeros) _ (m + z) q ∙ ap (λ (x : ℕ). drop x s) q,
+      ap (drop (m + z)) (ro ∙ sym (append-assoc new zeros _)) ∙ drop-at (new ++ zeros) _ (m + z) t ∙ ap (λ (x : ℕ). drop x s) t,
     )
 
 pub number-keeps : NumberKeeps

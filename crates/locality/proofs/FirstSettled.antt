@@ -9,10 +9,8 @@ use lib.ListN.{length, getD, drop, length-drop}
 use lib.Seq.{getD-drop}
 use Rattle.contacts.specs.Contacts.{kindOf}
 use Rattle.paths.specs.Paths.{none}
-use Rattle.locality.specs.Local.{settles, thinFrom, thinRun, reachOf}
+use Rattle.locality.specs.Local.{settles, thinFrom, thinRun, reachOf, settledTo, ReachIsFirst}
 use Rattle.contacts.specs.declared.Vertex.{Vertex}
-use Rattle.reaching.specs.Steps.{settledTo}
-use Rattle.reaching.specs.Theorems.{ReachIsFirst}
 
 -- whether the n-th step settles
 settledFrom : List Vertex → ℕ → Bool
