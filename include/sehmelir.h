@@ -63,6 +63,24 @@
 extern "C" {
 #endif
 
+/* The version of this header and of the archive that goes with it. */
+#define SEHMELIR_VERSION "0.1.0"
+
+/* The limits of a path, its vertices and its grade. */
+#define SEHMELIR_MOST_VERTICES 4096
+#define SEHMELIR_LEAST_COORDINATE (-268435456)
+#define SEHMELIR_MOST_COORDINATE 268435456
+#define SEHMELIR_MOST_RADIUS 268435456
+#define SEHMELIR_LEAST_GRADE 1
+#define SEHMELIR_MOST_GRADE 8
+
+/* The bytes of stack that a call takes at most. */
+#define SEHMELIR_STACK_BYTES (528 * 1024)
+
+/* The bytes of an outline with so many vertices and edges. */
+#define SEHMELIR_OUTLINE_BYTES(vertices, edges)                                \
+    ((size_t)24 + (size_t)16 * (vertices) + (size_t)16 * (edges))
+
 /* The replies, by number. Each call below says in which order it tests them. */
 enum sehmelir_reply_number {
     SEHMELIR_DONE = 0,        /* done */

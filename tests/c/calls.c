@@ -100,10 +100,11 @@ static void check_draw(void) {
                 SEHMELIR_NOT_TRIPLES, PATH - 1, 0, "draw of five numbers");
     check_reply(sehmelir_draw(path, PATH, 9, out.lent, NUMBERS), SEHMELIR_GRADE,
                 9, 0, "draw at grade 9");
-    static const int32_t many[3 * 4097];
-    check_reply(sehmelir_draw(many, 3 * 4097, 1, out.lent, NUMBERS),
+    static const int32_t many[3 * (SEHMELIR_MOST_VERTICES + 1)];
+    check_reply(sehmelir_draw(many, 3 * (SEHMELIR_MOST_VERTICES + 1), 1, out.lent, NUMBERS),
                 SEHMELIR_TOO_MANY, 4097, 0, "draw of 4,097 vertices");
-    static const int32_t outside[PATH] = {0, 0, 5, 268435457, 0, 5};
+    static const int32_t outside[PATH] = {
+        0, 0, 5, SEHMELIR_MOST_COORDINATE + 1, 0, 5};
     check_reply(sehmelir_draw(outside, PATH, 1, out.lent, NUMBERS),
                 SEHMELIR_OUTSIDE, 1, 0, "draw of a vertex outside the limits");
     check(memcmp(&out, &expected, sizeof out) == 0,
@@ -125,6 +126,8 @@ static void check_keep(void) {
     fill(&out, sizeof out);
     expected = out;
 
+    check(SEHMELIR_OUTLINE_BYTES(2, EDGES) == OUTLINE,
+          "the header tells an outline's bytes");
     check_reply(sehmelir_keep(path, PATH, 1, out.lent, 0), SEHMELIR_NO_ROOM,
                 OUTLINE, 0, "keep without room tells the bytes needed");
     check_reply(sehmelir_keep(path, PATH, 1, out.lent, OUTLINE - 1),

@@ -78,17 +78,7 @@ impl Display for Failure {
 /// A refusal with its reply's number. The library's own words are shorter and
 /// name no number.
 fn fmt_refusal(refusal: &Refusal, formatter: &mut Formatter) -> fmt::Result {
-    let reply = match refusal {
-        Refusal::NotTriples(_) => 1,
-        Refusal::TooMany(_) => 2,
-        Refusal::Grade(_) => 3,
-        Refusal::Outside(_) => 4,
-        Refusal::NoRoom(_) => 5,
-        Refusal::NotOutline => 6,
-        Refusal::Kind(_) => 7,
-        Refusal::NotSound(_) => 8,
-        Refusal::NoVertex(_) => 9,
-    };
+    let reply = refusal.reply();
     let meaning = meaning(refusal);
     write!(formatter, "refused with reply {reply}: {meaning}")
 }
@@ -120,5 +110,7 @@ fn meaning(refusal: &Refusal) -> String {
             "the index is not below the number of vertices; it is {index} \
              (vertices are counted from 0)"
         ),
+        // one that the library has and this command does not know yet
+        other => other.to_string(),
     }
 }

@@ -1,11 +1,11 @@
-//! Enough stack for the library's calls, which take up to 528 KiB of it.
+//! Enough stack for the library's calls.
 
 use std::io;
 use std::panic::resume_unwind;
 use std::thread;
 
 /// What a command runs on, with room to spare.
-const ENOUGH: usize = 4 << 20;
+const ENOUGH: usize = sehmelir::STACK + (3 << 20);
 
 /// Does the work where there is stack enough: here, if this thread's limit, which
 /// its user may have set, allows it; else on a thread that is given as much.

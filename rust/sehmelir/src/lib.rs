@@ -4,7 +4,36 @@
 mod foreign;
 mod refusal;
 
+use std::ops::RangeInclusive;
+
 pub use refusal::Refusal;
+
+/// The most vertices that a path may have.
+pub const MOST_VERTICES: usize = 4_096;
+
+/// The coordinates that a vertex may have.
+pub const COORDINATES: RangeInclusive<i32> = -268_435_456..=268_435_456;
+
+/// The radii that a vertex may have.
+pub const RADII: RangeInclusive<i32> = 0..=268_435_456;
+
+/// The grades, from the coarsest to the finest.
+pub const GRADES: RangeInclusive<u32> = 1..=8;
+
+/// The bytes of stack that a call takes at most: a thread that calls needs
+/// more than that.
+pub const STACK: usize = 528 << 10;
+
+/// The bytes of an outline with so many vertices and edges.
+///
+/// ```
+/// let store = sehmelir::outline(&[0, 0, 10], 1)?;
+/// assert_eq!(store.len(), sehmelir::outline_bytes(1, 8));
+/// # Ok::<(), sehmelir::Refusal>(())
+/// ```
+pub const fn outline_bytes(vertices: usize, edges: usize) -> usize {
+    24 + 16 * vertices + 16 * edges
+}
 
 /// Draws a path's edges into lent numbers, four an edge, and returns how many
 /// edges there are.
@@ -19,7 +48,7 @@ pub use refusal::Refusal;
 /// assert_eq!(out[32..], [7; 4]);
 /// ```
 ///
-/// # Refusals
+/// # Errors
 ///
 /// In this order: [`NotTriples`](Refusal::NotTriples),
 /// [`Grade`](Refusal::Grade), [`TooMany`](Refusal::TooMany),
@@ -50,7 +79,7 @@ pub fn draw(path: &[i32], grade: u32, out: &mut [i32]) -> Result<usize, Refusal>
 /// assert_eq!(out[168..], [7, 7]);
 /// ```
 ///
-/// # Refusals
+/// # Errors
 ///
 /// Those of [`draw`], with the bytes needed beside
 /// [`NoRoom`](Refusal::NoRoom). A refusal leaves `out` as it was.
@@ -78,7 +107,7 @@ pub fn keep(path: &[i32], grade: u32, out: &mut [u8]) -> Result<usize, Refusal> 
 /// # Ok::<(), sehmelir::Refusal>(())
 /// ```
 ///
-/// # Refusals
+/// # Errors
 ///
 /// In this order: [`NotOutline`](Refusal::NotOutline),
 /// [`Kind`](Refusal::Kind), [`Grade`](Refusal::Grade),
@@ -118,7 +147,7 @@ pub fn read(store: &[u8], out: &mut [i32]) -> Result<(usize, u32), Refusal> {
 /// # Ok::<(), sehmelir::Refusal>(())
 /// ```
 ///
-/// # Refusals
+/// # Errors
 ///
 /// Those of [`read`] up to [`NotSound`](Refusal::NotSound), then
 /// [`NoVertex`](Refusal::NoVertex), [`Outside`](Refusal::Outside) of the new
@@ -166,7 +195,7 @@ pub fn replace(
 /// # Ok::<(), sehmelir::Refusal>(())
 /// ```
 ///
-/// # Refusals
+/// # Errors
 ///
 /// Those of [`read`] up to [`NotSound`](Refusal::NotSound), then
 /// [`NoVertex`](Refusal::NoVertex).
@@ -193,7 +222,7 @@ pub fn reach(store: &[u8], index: usize) -> Result<usize, Refusal> {
 /// # Ok::<(), sehmelir::Refusal>(())
 /// ```
 ///
-/// # Refusals
+/// # Errors
 ///
 /// Those of [`draw`] but [`NoRoom`](Refusal::NoRoom).
 pub fn edges(path: &[i32], grade: u32) -> Result<Vec<[i32; 4]>, Refusal> {
@@ -208,7 +237,7 @@ pub fn edges(path: &[i32], grade: u32) -> Result<Vec<[i32; 4]>, Refusal> {
 /// # Ok::<(), sehmelir::Refusal>(())
 /// ```
 ///
-/// # Refusals
+/// # Errors
 ///
 /// Those of [`keep`] but [`NoRoom`](Refusal::NoRoom).
 pub fn outline(path: &[i32], grade: u32) -> Result<Vec<u8>, Refusal> {

@@ -2,6 +2,10 @@ use std::error::Error;
 use std::fmt::{self, Display, Formatter};
 
 /// Why a call was refused. A refused call has changed no lent memory.
+///
+/// Refusals are appended as calls are, so a `match` on one needs an arm for
+/// those to come.
+#[non_exhaustive]
 #[derive(Clone, Copy, Debug, PartialEq, Eq)]
 pub enum Refusal {
     /// 1: so many numbers were lent as a path, and that is no multiple of
@@ -30,6 +34,27 @@ pub enum Refusal {
     NoVertex(usize),
 }
 
+impl Refusal {
+    /// The reply's number, as `include/sehmelir.h` lists them.
+    ///
+    /// ```
+    /// assert_eq!(sehmelir::Refusal::NoRoom(8).reply(), 5);
+    /// ```
+    pub fn reply(&self) -> u32 {
+        match self {
+            Refusal::NotTriples(_) => 1,
+            Refusal::TooMany(_) => 2,
+            Refusal::Grade(_) => 3,
+            Refusal::Outside(_) => 4,
+            Refusal::NoRoom(_) => 5,
+            Refusal::NotOutline => 6,
+            Refusal::Kind(_) => 7,
+            Refusal::NotSound(_) => 8,
+            Refusal::NoVertex(_) => 9,
+        }
+    }
+}
+
 impl Display for Refusal {
     fn fmt(&self, formatter: &mut Formatter) -> fmt::Result {
         match self {
@@ -44,7 +69,8 @@ impl Display for Refusal {
             Refusal::Outside(index) => write!(formatter, "vertex {index} is outside the limits"),
             Refusal::NoRoom(needed) => write!(
                 formatter,
-                "the room is too short for {needed} edges, vertices or bytes"
+                "the room is too short: the result has {needed} edges if drawn, \
+                 vertices if read, bytes if kept or replaced"
             ),
             Refusal::NotOutline => {
                 write!(formatter, "the store is too short or not of edition 1")

@@ -4,7 +4,7 @@ use sehmelir::{draw, keep, reach, read, replace, Refusal};
 use std::thread::Builder;
 
 /// What draw may take, and some for the thread that calls it.
-const FOR_DRAW: usize = (528 + 32) * 1024;
+const FOR_DRAW: usize = sehmelir::STACK + 32 * 1024;
 
 /// What keep, read, replace and reach may take, and as much for the thread.
 const FOR_OTHERS: usize = (256 + 32) * 1024;
