@@ -176,7 +176,8 @@ fn say_why() {
         (Refusal::Outside(3), "vertex 3 is outside the limits"),
         (
             Refusal::NoRoom(8),
-            "the room is too short for 8 edges, vertices or bytes",
+            "the room is too short: the result has 8 edges if drawn, vertices if read, \
+             bytes if kept or replaced",
         ),
         (
             Refusal::NotOutline,
@@ -189,8 +190,9 @@ fn say_why() {
         ),
         (Refusal::NoVertex(2), "the outline has no vertex 2"),
     ];
-    for (refusal, text) in table {
+    for ((refusal, text), reply) in table.into_iter().zip(1..) {
         let error: &dyn Error = &refusal;
         assert_eq!(error.to_string(), text);
+        assert_eq!(refusal.reply(), reply);
     }
 }
