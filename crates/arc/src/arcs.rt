@@ -19,7 +19,7 @@ ghost use Rattle.plane.specs.Vectors.{fromTo};
 ghost use Rattle.plane.specs.Directions.{UnitLong};
 ghost use Rattle.turning.specs.Edges.{edgeNumbers, edgeOf};
 ghost use Rattle.turning.specs.Arcs.{ringOf, circleOf, arcOf};
-ghost use Rattle.turning.specs.Bounds.{Centre, Radius, About};
+ghost use Rattle.turning.specs.Bounds.{Centre, About};
 ghost use Rattle.folds.specs.Pens.{Lays};
 
 // A full arc: the circle through p, rounded inwards, then the straight edge.
@@ -33,20 +33,19 @@ fn ring(out: &mut [i32], at: usize, pen: Pen, c: Point, p: Point, q: Point) -> u
     edge(out, n, p, q)
 }
 
-// The arc from p to q about c by steps of the pen, its inner points at the radius; the caller chooses how far it turns where the rays are aligned.
+// The arc from p to q about c by steps of the pen, its inner points as far out as p; the caller chooses how far it turns where the rays are aligned.
 pub fn arc(
     out: &mut [i32],
     at: usize,
     pen: Pen,
     c: Point,
-    radius: i64,
     p: Point,
     q: Point,
     choice: Sweep,
 ) -> usize
-    requires { ⌜ UnitLong (pen .step) × Centre c × Radius radius × About c p × About c q ⌝ }
-    requires { ⌜ Room edgeNumbers at (arcOf (pen .step) c radius p q choice) ⌝ }
-    ensures { λ n. ⌜ Lays (pen .step) (pen .folds) (now (out .entry)) at (arcOf (pen .step) c radius p q choice) (now (out .exit)) n ⌝ }
+    requires { ⌜ UnitLong (pen .step) × Centre c × About c p × About c q ⌝ }
+    requires { ⌜ Room edgeNumbers at (arcOf (pen .step) c (ringOf (fromTo c p)) p q choice) ⌝ }
+    ensures { λ n. ⌜ Lays (pen .step) (pen .folds) (now (out .entry)) at (arcOf (pen .step) c (ringOf (fromTo c p)) p q choice) (now (out .exit)) n ⌝ }
 {
     let m = from_to(c, p);
     let n = from_to(c, q);
@@ -62,5 +61,6 @@ pub fn arc(
     if full(w, d, e) {
         return ring(out, at, pen, c, p, q);
     }
+    let radius = root(k.square) as i64;
     swept(out, at, pen, c, radius, p, d, q, e)
 }

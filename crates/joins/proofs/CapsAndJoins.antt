@@ -6,12 +6,12 @@ use mathlib.Core.List.{_++_}
 use Prim.Native.Nat.{_^_, _<_}
 use lib.IntN.{ℤ, pos}
 use lib.Signed.{leZ, ltZ, mag}
-use Rattle.plane.specs.Vectors.{Near, Short, samePoint, crossOf}
+use Rattle.plane.specs.Vectors.{Near, Short, samePoint, crossOf, fromTo}
 use Rattle.plane.proofs.Products.{bits, back, from-to-short}
 use Rattle.plane.specs.declared.Point.{Point}
 use Rattle.plane.specs.declared.Vector.{Vector}
 use Rattle.turning.specs.Edges.{edgeOf}
-use Rattle.turning.specs.Arcs.{arcOf}
+use Rattle.turning.specs.Arcs.{ringOf, arcOf}
 use Rattle.turning.specs.Bounds.{Radius, About, Reach}
 use Rattle.turning.specs.declared.Edge.{Edge}
 use Rattle.turning.specs.declared.Sweep.{Sweep}
@@ -41,12 +41,13 @@ pub along-short : {e : Edge} {v : Vector} → Reach e → v ≡ alongOf e → Sh
 unfolding alongOf
 along-short {e} h f = rw f (from-to-short (h .a) (h .b))
 
--- ---- an arc about a vertex, from its radius's bits
+-- ---- an arc about a vertex
 
-pub arc-about-is : (t : Vector) (v : Vertex) (p q : Point) (w : Sweep) {c : Point} → mag (v .radius) < 2 ^ 63 → c ≡ centreOf v → arcAbout t v p q w ≡ arcOf t c (bits (v .radius)) p q w
+pub arc-about-is : (t : Vector) (v : Vertex) (p q : Point) (w : Sweep) {c : Point} → c ≡ centreOf v → arcAbout t v p q w ≡ arcOf t c (ringOf (fromTo c p)) p q w
 unfolding arcAbout innerOf
-arc-about-is t v p q w {c} h e = let f : bits (v .radius) ≡ v .radius = back (record { sfits = h }) in rw (f, e)
+arc-about-is t v p q w e = rw e
 
+-- a vertex's radius, read back from its bits
 pub radius-told : {v : Vertex} → Inside v → mag (v .radius) < 2 ^ 63 → Radius (bits (v .radius))
 radius-told {v} h k = let f : bits (v .radius) ≡ v .radius = back (record { sfits = k }) in rw f (h .radius)
 

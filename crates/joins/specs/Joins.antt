@@ -7,7 +7,7 @@ use Rattle.plane.specs.Vectors.{samePoint, fromTo, crossOf}
 use Rattle.plane.specs.declared.Point.{Point}
 use Rattle.plane.specs.declared.Vector.{Vector}
 use Rattle.turning.specs.Edges.{edgeOf}
-use Rattle.turning.specs.Arcs.{arcOf}
+use Rattle.turning.specs.Arcs.{ringOf, arcOf}
 use Rattle.turning.specs.declared.Edge.{Edge}
 use Rattle.turning.specs.declared.Sweep.{Sweep}
 use Rattle.turning.specs.declared.Sweep.the-variants.{Minor, Major}
@@ -19,9 +19,10 @@ use Rattle.contacts.specs.declared.Section.{Section}
 use Rattle.joins.specs.declared.Cap.{Cap}
 use Rattle.joins.specs.declared.Cap.the-variants.{Butt, Round}
 
--- The inner points of an arc about a vertex, from the contact p on, are scaled by the vertex's radius ("Arcs").
+-- Document 02, request 6: the inner points of an arc about a vertex, from the contact p on, lie as far out as p does, which is the integer root of its
+-- squared distance from the centre.
 unfoldable pub innerOf : Vertex → Point → ℤ
-innerOf v p = v .radius
+innerOf v p = ringOf (fromTo (centreOf v) p)
 
 -- an arc between two contacts of a vertex
 unfoldable pub arcAbout : Vector → Vertex → Point → Point → Sweep → List Edge

@@ -40,7 +40,7 @@ fn arc_about(
     requires { ⌜ Room edgeNumbers at (arcAbout (pen .step) v p q choice) ⌝ }
     ensures { λ n. ⌜ Lays (pen .step) (pen .folds) (now (out .entry)) at (arcAbout (pen .step) v p q choice) (now (out .exit)) n ⌝ }
 {
-    arc(out, at, pen, centre(v), v.radius, p, q, choice)
+    arc(out, at, pen, centre(v), p, q, choice)
 }
 
 // How a start cap sweeps where its rays are aligned.

@@ -35,13 +35,16 @@ use Rattle.contacts.specs.declared.Last.{Last}
 use Rattle.contacts.specs.declared.Last.the-variants.{Nothing, Held}
 use Rattle.variable_stroke.specs.declared.Chain.{Chain}
 use Rattle.variable_stroke.specs.declared.Walk.{Walk}
+use Rattle.plane.specs.Vectors.{fromTo}
+use Rattle.turning.specs.Arcs.{ringOf}
+use Rattle.turning.proofs.Rays.{ring-radius}
 
 -- ---- from caps to steps
 
 module _ (t : Vector) (u : UnitLong t) where
   about-reach : (v : Vertex) (p q : Point) (w : Sweep) → Inside v → About (centreOf v) p → About (centreOf v) q → AllReach (arcAbout t v p q w)
   unfolding arcAbout innerOf
-  about-reach v p q w h k l = arc-reach t (centreOf v) (v .radius) p q w u (centre-is h) (h .radius) k l
+  about-reach v p q w h k l = arc-reach t (centreOf v) (ringOf (fromTo (centreOf v) p)) p q w u (centre-is h) (ring-radius k) k l
 
   start-reach : (s : Section) (k : Cap) → Around s → AllReach (startCap t s k)
   unfolding startCap

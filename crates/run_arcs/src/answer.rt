@@ -25,7 +25,7 @@ pub enum Answer {
     Outside,
 }
 
-// The edges of an arc about a vertex, whose radius is that of the inner points.
+// The edges of an arc about a vertex.
 pub fn arc(out: &mut [i32], t: Vector, v: Vertex, p: Point, q: Point, choice: Sweep) -> Answer
     requires { ⌜ UnitLong t ⌝ }
 {
@@ -43,7 +43,7 @@ pub fn arc(out: &mut [i32], t: Vector, v: Vertex, p: Point, q: Point, choice: Sw
         step: t,
         folds: false,
     };
-    Answer::Edges(arc::arcs::arc(out, 0, pen, c, v.radius, p, q, choice))
+    Answer::Edges(arc::arcs::arc(out, 0, pen, c, p, q, choice))
 }
 
 // The edges of a vertex's circle.

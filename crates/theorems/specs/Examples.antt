@@ -67,10 +67,11 @@ examples =
 
 -- Further paths, from the places that are easy to get wrong: a full circle at a joint whose contacts are nearer than the radius; a step back that
 -- does not cover, since the larger radius does not exceed; a contact at a half; two full circles in one join; equality that breaks a chain; a
--- thin step between drawn ones; a covered circle, and one after it.
+-- thin step between drawn ones; a covered circle, and one after it; and the smallest path whose inner points lie nearer than its radius (document
+-- 02, request 6).
 unfoldable pub further : List Example
 further =
-    record { asked = counts 1; path = pos 0 ∷ pos 0 ∷ pos 2 ∷ pos 10 ∷ pos 10 ∷ pos 2 ∷ pos 20 ∷ pos 20 ∷ pos 2 ∷ []; answer = pos 0 ∷ pos 6 ∷ pos 2 ∷ pos 4 ∷ [] }
+    record { asked = counts 1; path = pos 0 ∷ pos 0 ∷ pos 2 ∷ pos 10 ∷ pos 10 ∷ pos 2 ∷ pos 20 ∷ pos 20 ∷ pos 2 ∷ []; answer = pos 0 ∷ pos 5 ∷ pos 2 ∷ pos 3 ∷ [] }
     ∷ record { asked = counts 1; path = pos 0 ∷ pos 0 ∷ pos 5 ∷ pos 20 ∷ pos 0 ∷ pos 5 ∷ pos 10 ∷ pos 0 ∷ pos 5 ∷ []; answer = pos 0 ∷ pos 6 ∷ pos 7 ∷ pos 4 ∷ [] }
     ∷ record { asked = counts 1; path = pos 0 ∷ pos 0 ∷ pos 2 ∷ pos 2 ∷ pos 0 ∷ pos 1 ∷ []; answer = pos 0 ∷ pos 7 ∷ pos 2 ∷ [] }
     ∷ record { asked = counts 8; path = pos 0 ∷ minus 46 ∷ pos 267688968 ∷ pos 0 ∷ pos 0 ∷ pos 267688965 ∷ pos 0 ∷ pos 138 ∷ pos 267688956 ∷ []; answer = pos 0 ∷ pos 421 ∷ pos 1616 ∷ pos 386 ∷ [] }
@@ -78,6 +79,7 @@ further =
     ∷ record { asked = counts 1; path = pos 0 ∷ pos 0 ∷ pos 5 ∷ pos 20 ∷ pos 0 ∷ pos 1 ∷ pos 40 ∷ pos 0 ∷ pos 1 ∷ pos 60 ∷ pos 0 ∷ pos 5 ∷ []; answer = pos 0 ∷ pos 6 ∷ pos 0 ∷ pos 4 ∷ pos 4 ∷ [] }
     ∷ record { asked = counts 1; path = pos 0 ∷ pos 0 ∷ pos 9 ∷ pos 20 ∷ pos 0 ∷ pos 9 ∷ pos 10 ∷ pos 0 ∷ pos 1 ∷ []; answer = pos 0 ∷ pos 6 ∷ pos 7 ∷ pos 1 ∷ [] }
     ∷ record { asked = counts 1; path = pos 0 ∷ pos 0 ∷ pos 9 ∷ pos 20 ∷ pos 0 ∷ pos 9 ∷ pos 10 ∷ pos 0 ∷ pos 1 ∷ pos 12 ∷ pos 0 ∷ pos 1 ∷ []; answer = pos 0 ∷ pos 6 ∷ pos 7 ∷ pos 2 ∷ pos 0 ∷ [] }
+    ∷ record { asked = counts 1; path = pos 0 ∷ pos 0 ∷ pos 2 ∷ pos 0 ∷ minus 3 ∷ pos 0 ∷ []; answer = pos 0 ∷ pos 6 ∷ pos 0 ∷ [] }
     ∷ []
 
 unfoldable pub answersOf : List Example → List (List ℤ)

@@ -28,9 +28,10 @@ impl Kind {
     }
 }
 
-/// An arc between two contacts, by its rays from the centre.
+/// An arc between two contacts, by its centre and its rays from there.
 #[derive(Clone, Copy, Debug, PartialEq, Eq)]
 pub struct Arc {
+    pub centre: Point,
     pub start: Point,
     pub end: Point,
     pub sweep: Sweep,
@@ -108,13 +109,16 @@ impl Labeller {
     }
 
     fn arc(&mut self, kind: Kind, about: Vertex, from: Point, to: Point, aligned: Sweep) {
-        let (centre, radius, step) = (about.centre(), about.radius, self.step);
+        let (centre, step) = (about.centre(), self.step);
         let (start, end) = (from - centre, to - centre);
         let sweep = sweep(start, end, aligned);
-        self.labelled.arcs.push(Arc { start, end, sweep });
-        self.label(kind, |out| {
-            arc(out, step, centre, radius, from, to, aligned)
+        self.labelled.arcs.push(Arc {
+            centre,
+            start,
+            end,
+            sweep,
         });
+        self.label(kind, |out| arc(out, step, centre, from, to, aligned));
     }
 
     fn cap(&mut self, cap: Cap, about: Vertex, from: Point, to: Point, aligned: Sweep) {

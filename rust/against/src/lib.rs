@@ -4,10 +4,12 @@
 //! * [`labels`]: plain's edges with the crate's debug kinds, and the arcs
 //!   that document 01 sets aside
 //! * [`runs`]: runs of arc edges made into one
+//! * [`radii`]: how far out the points inside arcs lie
 //! * [`paths`]: all small paths, and random ones of many styles
 //! * [`list`]: a path and its edges as a line of text
 
 pub mod labels;
 pub mod list;
 pub mod paths;
+pub mod radii;
 pub mod runs;

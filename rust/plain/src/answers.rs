@@ -68,20 +68,20 @@ fn contacts(a: Vertex, b: Vertex) -> String {
     text(std::iter::once(kind).chain(corners).chain([trend]))
 }
 
-/// `1 grade cx cy inner px py qx qy choice` arc, `2 grade cx cy radius`
+/// `1 grade cx cy radius px py qx qy choice` arc about a vertex, `2 grade cx cy radius`
 /// circle, `3` and two vertices contacts, `4` and three vertices covering, `5
 /// grade` and four vertices join.
 pub fn arcs(case: &[i128]) -> Option<String> {
     let step = |grade: i128| step_of_grade(grade as u32);
     Some(match *case {
-        [1, grade, cx, cy, inner, px, py, qx, qy, choice] => {
+        [1, grade, cx, cy, _, px, py, qx, qy, choice] => {
             let (centre, from, to) = (point(cx, cy), point(px, py), point(qx, qy));
             let aligned = if choice == 0 {
                 Sweep::Minor
             } else {
                 Sweep::Major
             };
-            edges(|out| arc(out, step(grade), centre, inner as i64, from, to, aligned))
+            edges(|out| arc(out, step(grade), centre, from, to, aligned))
         }
         [2, grade, cx, cy, radius] => {
             edges(|out| circle(out, step(grade), point(cx, cy), radius as i64))

@@ -60,20 +60,18 @@ pub fn interior(step: Point, start: Point, end: Point) -> impl Iterator<Item = P
 }
 
 /// Arcs: the arc "counterclockwise from one contact to another about a
-/// vertex", whose centre and radius are `centre` and `inner`. `aligned` is the
-/// caller's choice.
+/// vertex". `aligned` is the caller's choice.
 ///
 /// "A Minor arc between equal points has no edges; no arc with an end at the
 /// centre has any. A Major arc whose two directions have cross product 0 or
 /// more and dot product above 0 is a circle followed by the straight edge from
 /// start to end; the circle's radius is the integer root of the start ray's
-/// squared length. Otherwise the interior points are the directions …
-/// scaled by the vertex's radius, then the end contact."
+/// squared length. Otherwise the interior points are the directions …, then
+/// the end contact." They are scaled by that root too (document 02, request 6).
 pub fn arc(
     out: &mut Vec<Edge>,
     step: Point,
     centre: Point,
-    inner: i64,
     from: Point,
     to: Point,
     aligned: Sweep,
@@ -87,15 +85,15 @@ pub fn arc(
         return;
     }
     let (start, end) = (direction(start_ray), direction(end_ray));
+    let radius = integer_root(start_ray.squared()) as i64;
     if sweep == Sweep::Major && start.cross(end) >= 0 && start.dot(end) > 0 {
-        let radius = integer_root(start_ray.squared()) as i64;
         circle(out, step, centre, radius);
         edge(out, from, to);
         return;
     }
     let mut reached = from;
     for current in interior(step, start, end) {
-        let next = centre + Point::new(scale(current.x, inner), scale(current.y, inner));
+        let next = centre + Point::new(scale(current.x, radius), scale(current.y, radius));
         edge(out, reached, next);
         reached = next;
     }
@@ -110,8 +108,8 @@ pub fn circle(out: &mut Vec<Edge>, step: Point, centre: Point, radius: i64) {
     }
     let across = Point::new(radius, 0);
     let (right, left) = (centre + across, centre - across);
-    arc(out, step, centre, radius, right, left, Sweep::Minor);
-    arc(out, step, centre, radius, left, right, Sweep::Minor);
+    arc(out, step, centre, right, left, Sweep::Minor);
+    arc(out, step, centre, left, right, Sweep::Minor);
 }
 
 #[cfg(test)]
@@ -158,7 +156,7 @@ mod tests {
             let mut out = Vec::new();
             let end = Point::new(radius, 0);
             let step = step_of_grade(1);
-            arc(&mut out, step, Point::ORIGIN, radius, end, end, aligned);
+            arc(&mut out, step, Point::ORIGIN, end, end, aligned);
             out.len()
         };
         assert_eq!(count(5, Sweep::Minor), 0);
@@ -172,7 +170,7 @@ mod tests {
         for (from, to) in [(centre, contact), (contact, centre), (centre, centre)] {
             for aligned in [Sweep::Minor, Sweep::Major] {
                 let mut out = Vec::new();
-                arc(&mut out, step_of_grade(1), centre, 2, from, to, aligned);
+                arc(&mut out, step_of_grade(1), centre, from, to, aligned);
                 assert!(out.is_empty());
             }
         }
@@ -187,18 +185,17 @@ mod tests {
         assert_eq!(sweep(from, to, Sweep::Minor), Sweep::Major);
         assert_eq!(direction(from).cross(direction(to)), 0);
         let mut out = Vec::new();
-        let inner = integer_root(from.squared()) as i64;
+        let radius = integer_root(from.squared()) as i32;
         arc(
             &mut out,
             step_of_grade(1),
             Point::ORIGIN,
-            inner,
             from,
             to,
             Sweep::Minor,
         );
         assert_eq!(out.len(), 9);
-        assert_eq!(out[0][..2], [inner as i32, 0]);
+        assert_eq!(out[0][..2], [radius, 0]);
         assert_eq!(
             out[8],
             [from.x as i32, from.y as i32, to.x as i32, to.y as i32]

@@ -23,8 +23,7 @@ pub fn start_cap(out: &mut Vec<Edge>, step: Point, section: &Section, cap: Cap) 
     match cap {
         Cap::Butt => edge(out, from, to),
         Cap::Round => {
-            let (centre, radius) = (section.a.centre(), section.a.radius);
-            arc(out, step, centre, radius, from, to, aligned);
+            arc(out, step, section.a.centre(), from, to, aligned);
         }
     }
 }
@@ -40,8 +39,7 @@ pub fn end_cap(out: &mut Vec<Edge>, step: Point, section: &Section, cap: Cap) {
     match cap {
         Cap::Butt => edge(out, from, to),
         Cap::Round => {
-            let (centre, radius) = (section.b.centre(), section.b.radius);
-            arc(out, step, centre, radius, from, to, aligned);
+            arc(out, step, section.b.centre(), from, to, aligned);
         }
     }
 }
@@ -52,10 +50,6 @@ pub fn end_cap(out: &mut Vec<Edge>, step: Point, section: &Section, cap: Cap) {
 /// left > 0 or prev × next centre line < 0, else an edge. Then prev.b_right to
 /// next.a_right, an arc (Major if aligned) when prev right × next right > 0 or
 /// prev × next centre line ≥ 0, else an edge."
-///
-/// Both arcs stand about prev's b. Where centres are equal but radii are
-/// not, thin steps lie between and one radius is 0: an end is at the centre
-/// and no arc shows which radius was taken.
 pub fn join(out: &mut Vec<Edge>, step: Point, prev: &Section, next: &Section) {
     let centre = prev.b.centre();
     if centre != next.a.centre() {
@@ -63,7 +57,6 @@ pub fn join(out: &mut Vec<Edge>, step: Point, prev: &Section, next: &Section) {
         start_cap(out, step, next, Cap::Butt);
         return;
     }
-    let radius = prev.b.radius;
     let prev_left = prev.b_left - prev.a_left;
     let prev_right = prev.b_right - prev.a_right;
     let next_left = next.b_left - next.a_left;
@@ -72,13 +65,13 @@ pub fn join(out: &mut Vec<Edge>, step: Point, prev: &Section, next: &Section) {
 
     let (from, to) = (next.a_left, prev.b_left);
     if next_left.cross(prev_left) > 0 || bend < 0 {
-        arc(out, step, centre, radius, from, to, Sweep::Minor);
+        arc(out, step, centre, from, to, Sweep::Minor);
     } else {
         edge(out, from, to);
     }
     let (from, to) = (prev.b_right, next.a_right);
     if prev_right.cross(next_right) > 0 || bend >= 0 {
-        arc(out, step, centre, radius, from, to, Sweep::Major);
+        arc(out, step, centre, from, to, Sweep::Major);
     } else {
         edge(out, from, to);
     }

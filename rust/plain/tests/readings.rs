@@ -30,7 +30,13 @@ fn reading_3_the_circle_goes_by_its_own_radius() {
     let section = Section::new(vertices(&path)[0], vertices(&path)[1]);
     assert_eq!(section.a_left, Point::new(-1, 1));
     assert_eq!(integer_root(section.a_left.squared()), 1);
-    assert_eq!(counts(&path, 1), [0, 6, 2, 4]);
+    assert_eq!(counts(&path, 1), [0, 5, 2, 3]);
+}
+
+#[test]
+fn reading_21_inner_points_lie_as_far_out_as_the_start() {
+    let path = [(0, 0, 2), (0, -3, 0)];
+    assert_eq!(counts(&path, 1), [0, 6, 0]);
 }
 
 #[test]

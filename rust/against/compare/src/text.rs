@@ -8,7 +8,7 @@ use i_overlay::mesh::int::variable_stroke::{
 };
 use plain::arcs::Edge;
 
-/// The builder, at some step angles. Points inside arcs are not compared, so
+/// The builder, at some step angles. Where points lie on an arc is not compared, so
 /// any of them must do.
 pub struct Text {
     strokes: [Stroke; Text::STEPS],

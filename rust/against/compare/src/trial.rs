@@ -2,6 +2,7 @@
 
 use crate::text::Text;
 use against::labels::{labelled, Kind};
+use against::radii::as_far_out;
 use against::runs::{collapsed, collapsed_by_kind};
 use plain::arcs::Edge;
 
@@ -13,6 +14,9 @@ pub enum Verdict {
     Edges,
     /// The collapsed edges are the same, but not the kinds of their edges.
     Kinds,
+    /// The kinds are the same too, but a point inside an arc of the text lies
+    /// nearer or farther than the arc's start contact.
+    Radii,
 }
 
 /// What collapsed edges must not depend on.
@@ -56,15 +60,18 @@ pub struct Trial {
     pub plain: Vec<(Edge, Kind)>,
     pub text: Vec<(Edge, Kind)>,
     pub set_aside: bool,
+    pub as_far_out: bool,
 }
 
 impl Trial {
     pub fn new(text: &mut Text, path: &[[i32; 3]], setting: Setting) -> Trial {
         let labelled = labelled(path, setting.grade);
+        let text = text.edges(path, setting.step, setting.odd);
         Trial {
             set_aside: labelled.set_aside(),
+            as_far_out: as_far_out(&text, &labelled),
             plain: labelled.edges,
-            text: text.edges(path, setting.step, setting.odd),
+            text,
         }
     }
 
@@ -73,6 +80,8 @@ impl Trial {
             Verdict::Edges
         } else if collapsed_by_kind(&self.plain) != collapsed_by_kind(&self.text) {
             Verdict::Kinds
+        } else if !self.as_far_out {
+            Verdict::Radii
         } else {
             Verdict::Agree
         }

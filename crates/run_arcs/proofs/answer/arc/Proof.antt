@@ -2,7 +2,6 @@
 use borrow.Author.Needs.{needs}
 use borrow.Author.Tests.{not-false}
 use native.Mathlib.Omega.{arith}
-use Rattle.turning.proofs.Limits.{radius-told}
 use Rattle.turning.proofs.Most.{arc-most}
 use Rattle.contacts.proofs.Steps.{place-near}
 use Rattle.run_arcs.proofs.Guards.{inside-told, centre-told, few-room}
@@ -32,10 +31,10 @@ returns-3 c = search needs
 
 arc-requires : tie.Need-arc-requires
 arc-requires c κs =
-    let h = inside-told (c .before .before .before .before .before .before .before .before .allowed .ensures) (c .before .before .before .before .before .before .before .if1 .left) in
-    let p = c .before .before .before .before .before .about .ensures (not-false _ (c .before .before .before .before .if2 .left)) in
-    let q = c .before .before .before .about2 .ensures (not-false _ (c .before .before .if3 .left)) in
-    ((c .before .before .before .before .before .before .before .before .before .pre, centre-told (c .before .before .before .before .before .before .centre .ensures) h, radius-told (h .radius), p, q), few-room (omega arith) (arc-most _ _ _ _ _ _))
+    let h = inside-told (c .before .before .before .before .before .before .before .allowed .ensures) (c .before .before .before .before .before .before .if1 .left) in
+    let p = c .before .before .before .before .about .ensures (not-false _ (c .before .before .before .if2 .left)) in
+    let q = c .before .before .about2 .ensures (not-false _ (c .before .if3 .left)) in
+    ((c .before .before .before .before .before .before .before .before .pre, centre-told (c .before .before .before .before .before .centre .ensures) h, p, q), few-room (omega arith) (arc-most _ _ _ _ _ _))
 
 same-length : tie.Need-same-length
 same-length c = search needs
