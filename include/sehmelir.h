@@ -25,9 +25,15 @@
  * give. A STORE is memory that begins with an outline; what stands after the
  * outline is neither looked at nor, unless the outline grows over it, changed.
  *
+ * The OLDEST CHUNKS keep a vertex as three 32-bit floats: x, y and full width,
+ * in millimetres. A coordinate is a whole number within the limits above, a
+ * width an even whole number from 0 to 536,870,912, and the radius is half of
+ * it. Minus zero counts as zero.
+ *
  * Lent memory, for all calls:
  *
- * - Lengths count elements: int32_t in a path or in edges, bytes in a store.
+ * - Lengths count elements: int32_t in a path or in edges, float in the oldest
+ *   chunks, bytes in a store.
  * - A pointer is never null and is aligned for its type, even where the length
  *   is 0. Where there is nothing to lend, pass the address of any variable of
  *   the type, and 0:
@@ -48,7 +54,8 @@
  * The calls allocate nothing, keep nothing between calls, and may run in
  * several threads at once. On the stack sehmelir_draw takes up to 528 KiB, and
  * sehmelir_keep, sehmelir_read, sehmelir_replace and sehmelir_reach up to
- * 256 KiB, so a thread that calls them needs more than that.
+ * 256 KiB, so a thread that calls them needs more than that; the others take
+ * below 1 KiB.
  *
  * It is proved of each call that its reply and all lent memory afterwards are
  * what the rules give. The proof rests on memory being lent as said above.
@@ -84,7 +91,7 @@ extern "C" {
 /* The replies, by number. Each call below says in which order it tests them. */
 enum sehmelir_reply_number {
     SEHMELIR_DONE = 0,        /* done */
-    SEHMELIR_NOT_TRIPLES = 1, /* the path's numbers are no multiple of three */
+    SEHMELIR_NOT_TRIPLES = 1, /* the numbers lent are no multiple of three */
     SEHMELIR_TOO_MANY = 2,    /* above 4,096 vertices */
     SEHMELIR_GRADE = 3,       /* the grade is not 1 to 8 */
     SEHMELIR_OUTSIDE = 4,     /* a vertex lies outside the limits */
@@ -92,7 +99,8 @@ enum sehmelir_reply_number {
     SEHMELIR_NOT_OUTLINE = 6, /* the store is too short, or not of edition 1 */
     SEHMELIR_KIND = 7,        /* the outline's kind is not 0 */
     SEHMELIR_NOT_SOUND = 8,   /* the outline is not sound */
-    SEHMELIR_NO_VERTEX = 9    /* the outline has no vertex of that index */
+    SEHMELIR_NO_VERTEX = 9,   /* the outline has no vertex of that index */
+    SEHMELIR_NOT_TAKEN = 13   /* a number of the oldest chunks is not taken */
 };
 
 /* What a call answers. */
@@ -262,6 +270,78 @@ struct sehmelir_reply sehmelir_replace(uint8_t *store, size_t store_len,
  */
 struct sehmelir_reply sehmelir_reach(const uint8_t *store, size_t store_len,
                                      size_t index);
+
+/* Why a float is not taken, by number: the first that applies, in this order. */
+enum sehmelir_reason_number {
+    SEHMELIR_TAKEN = 0,          /* it is taken */
+    SEHMELIR_NOT_A_NUMBER = 1,   /* it is not a number */
+    SEHMELIR_INFINITE = 2,       /* it is infinite */
+    SEHMELIR_FRACTION = 3,       /* it has a fraction */
+    SEHMELIR_TOO_LARGE = 4,      /* it is too large in size */
+    SEHMELIR_NEGATIVE_WIDTH = 5, /* it is a negative width */
+    SEHMELIR_ODD_WIDTH = 6       /* it is an odd width */
+};
+
+/* What a float of the oldest chunks is taken for. */
+struct sehmelir_taken {
+    uint32_t reason; /* one of enum sehmelir_reason_number */
+    int32_t whole;   /* the whole number; 0 where the float is not taken */
+};
+
+/*
+ * Takes a float as a coordinate: a whole number of at most 268,435,456 in size.
+ */
+struct sehmelir_taken sehmelir_take_coordinate(float value);
+
+/*
+ * Takes a float as a full width: an even whole number from 0 to 536,870,912.
+ * The whole number answered is the radius, half of it.
+ */
+struct sehmelir_taken sehmelir_take_width(float value);
+
+/*
+ * Imports the floats of the oldest chunks, three a vertex, as a path in `out`.
+ *
+ * The first of these that applies is the reply:
+ *
+ *     1 SEHMELIR_NOT_TRIPLES  numbers_len is not a multiple of three
+ *                             number: numbers_len
+ *     2 SEHMELIR_TOO_MANY     there are above 4,096 vertices
+ *                             number: the vertices
+ *    13 SEHMELIR_NOT_TAKEN    a float is not taken
+ *                             number: the place of the first such float; why
+ *                             is told by sehmelir_take_coordinate or, at every
+ *                             third place, by sehmelir_take_width
+ *     5 SEHMELIR_NO_ROOM      out_len is below three times the vertices
+ *                             number: the vertices
+ *     0 SEHMELIR_DONE         the path stands in `out`, three numbers a vertex
+ *                             number: the vertices
+ */
+struct sehmelir_reply sehmelir_import(const float *numbers, size_t numbers_len,
+                                      int32_t *out, size_t out_len);
+
+/*
+ * Exports a path as the floats of the oldest chunks, three a vertex, in `out`.
+ * A number is written only where its float gives it back unchanged; zero is
+ * written as plus zero. What is exported and imported again has the same
+ * numbers, and so has what is imported and exported again, minus zero apart.
+ *
+ * The first of these that applies is the reply:
+ *
+ *     1 SEHMELIR_NOT_TRIPLES  path_len is not a multiple of three
+ *                             number: path_len
+ *     2 SEHMELIR_TOO_MANY     there are above 4,096 vertices
+ *                             number: the vertices
+ *    13 SEHMELIR_NOT_TAKEN    a number lies outside the limits, or no float is
+ *                             it, or twice it in a radius's place
+ *                             number: the place of the first such number
+ *     5 SEHMELIR_NO_ROOM      out_len is below three times the vertices
+ *                             number: the vertices
+ *     0 SEHMELIR_DONE         the floats stand in `out`, three a vertex
+ *                             number: the vertices
+ */
+struct sehmelir_reply sehmelir_export(const int32_t *path, size_t path_len,
+                                      float *out, size_t out_len);
 
 #ifdef __cplusplus
 }

@@ -1,10 +1,11 @@
 /*
  * The calls from C, on one path: document 01's example 5, and how far a vertex
- * reaches on a few more. One line for each check; the exit status is 1 if one
- * of them fails.
+ * reaches on a few more; then the oldest chunks. One line for each check; the
+ * exit status is 1 if one of them fails.
  */
 #include "sehmelir.h"
 
+#include <math.h>
 #include <stdbool.h>
 #include <stdio.h>
 #include <string.h>
@@ -292,6 +293,105 @@ static void check_damage(void) {
                   "read of a wrong last edge");
 }
 
+static void check_taken(struct sehmelir_taken given, uint32_t reason,
+                        int32_t whole, const char *what) {
+    bool same = given.reason == reason && given.whole == whole;
+    check(same, what);
+    if (!same)
+        printf("  reason %lu whole %ld\n", (unsigned long)given.reason,
+               (long)given.whole);
+}
+
+static void check_take(void) {
+    check_taken(sehmelir_take_coordinate(-1500.0f), SEHMELIR_TAKEN, -1500,
+                "a coordinate is taken");
+    check_taken(sehmelir_take_coordinate(-0.0f), SEHMELIR_TAKEN, 0,
+                "minus zero counts as zero");
+    check_taken(sehmelir_take_coordinate(268435456.0f), SEHMELIR_TAKEN,
+                268435456, "the limit is taken");
+    check_taken(sehmelir_take_coordinate(268435488.0f), SEHMELIR_TOO_LARGE, 0,
+                "the float after it is too large");
+    check_taken(sehmelir_take_coordinate(NAN), SEHMELIR_NOT_A_NUMBER, 0,
+                "NaN is not a number");
+    check_taken(sehmelir_take_coordinate(-INFINITY), SEHMELIR_INFINITE, 0,
+                "minus infinity is infinite");
+    check_taken(sehmelir_take_coordinate(8388607.5f), SEHMELIR_FRACTION, 0,
+                "a half is a fraction");
+    check_taken(sehmelir_take_width(650.0f), SEHMELIR_TAKEN, 325,
+                "a width is taken as the radius");
+    check_taken(sehmelir_take_width(536870912.0f), SEHMELIR_TAKEN, 268435456,
+                "the widest width is taken");
+    check_taken(sehmelir_take_width(-1e30f), SEHMELIR_TOO_LARGE, 0,
+                "too large comes before negative");
+    check_taken(sehmelir_take_width(-3.0f), SEHMELIR_NEGATIVE_WIDTH, 0,
+                "negative comes before odd");
+    check_taken(sehmelir_take_width(3.0f), SEHMELIR_ODD_WIDTH, 0,
+                "an odd width is not taken");
+}
+
+/* Lent floats, canaries on both sides. */
+struct floats {
+    float before[CANARIES];
+    float lent[PATH + SPARE];
+    float after[CANARIES];
+};
+
+static const float old[PATH] = {-0.0f, 0.0f, 10.0f, 20.0f, 0.0f, 10.0f};
+
+static void check_import(void) {
+    struct numbers out, expected;
+    fill(&out, sizeof out);
+    expected = out;
+
+    check_reply(sehmelir_import(old, PATH - 1, out.lent, 0),
+                SEHMELIR_NOT_TRIPLES, PATH - 1, 0, "import of five numbers");
+    static const float many[3 * 4097] = {0.5f};
+    check_reply(sehmelir_import(many, 3 * 4097, out.lent, 0), SEHMELIR_TOO_MANY,
+                4097, 0, "import of 4,097 vertices");
+    static const float odd[PATH] = {0, 0, 10, 20, 0, 7};
+    check_reply(sehmelir_import(odd, PATH, out.lent, 0), SEHMELIR_NOT_TAKEN, 5,
+                0, "import of an odd width");
+    check_reply(sehmelir_import(old, PATH, out.lent, PATH - 1),
+                SEHMELIR_NO_ROOM, 2, 0, "import is refused one number short");
+    check(memcmp(&out, &expected, sizeof out) == 0,
+          "import's refusals change nothing");
+
+    check_reply(sehmelir_import(old, PATH, out.lent, NUMBERS + SPARE),
+                SEHMELIR_DONE, 2, 0, "import gives two vertices");
+    memcpy(expected.lent, path, sizeof path);
+    check(memcmp(&out, &expected, sizeof out) == 0,
+          "import writes the path and nothing else");
+}
+
+static void check_export(void) {
+    struct floats out, expected;
+    fill(&out, sizeof out);
+    expected = out;
+
+    check_reply(sehmelir_export(path, PATH - 1, out.lent, 0),
+                SEHMELIR_NOT_TRIPLES, PATH - 1, 0, "export of five numbers");
+    static const int32_t many[3 * 4097] = {16777217};
+    check_reply(sehmelir_export(many, 3 * 4097, out.lent, 0), SEHMELIR_TOO_MANY,
+                4097, 0, "export of 4,097 vertices");
+    static const int32_t inexact[PATH] = {0, 0, 5, 0, 16777217, -1};
+    check_reply(sehmelir_export(inexact, PATH, out.lent, 0), SEHMELIR_NOT_TAKEN,
+                4, 0, "export of a number that no float is");
+    static const int32_t outside[3] = {268435488, 0, 5};
+    check_reply(sehmelir_export(outside, 3, out.lent, 0), SEHMELIR_NOT_TAKEN, 0,
+                0, "export of a number outside the limits");
+    check_reply(sehmelir_export(path, PATH, out.lent, PATH - 1),
+                SEHMELIR_NO_ROOM, 2, 0, "export is refused one float short");
+    check(memcmp(&out, &expected, sizeof out) == 0,
+          "export's refusals change nothing");
+
+    check_reply(sehmelir_export(path, PATH, out.lent, PATH + SPARE),
+                SEHMELIR_DONE, 2, 0, "export gives two vertices");
+    memcpy(expected.lent, old, sizeof old);
+    expected.lent[0] = 0.0f;
+    check(memcmp(&out, &expected, sizeof out) == 0,
+          "export writes the floats, zero for minus zero, and nothing else");
+}
+
 int main(void) {
     setvbuf(stdout, NULL, _IOLBF, BUFSIZ);
     check(sizeof(struct sehmelir_reply) == 16 &&
@@ -304,6 +404,12 @@ int main(void) {
     check_replace();
     check_reach();
     check_damage();
+    check(sizeof(struct sehmelir_taken) == 8 &&
+              offsetof(struct sehmelir_taken, whole) == 4,
+          "what a float is taken for is two 32-bit numbers");
+    check_take();
+    check_import();
+    check_export();
     puts(failed ? "tests/c: FAILED" : "tests/c: all checks hold");
     return failed;
 }

@@ -5,7 +5,7 @@ use Prim.Native.Nat.{ℕ}
 use lib.Dec.{eqb}
 use Rattle.replies.specs.Refusals.{refusalOf}
 use Rattle.replies.specs.declared.Refusal.{Refusal}
-use Rattle.replies.specs.declared.Refusal.the-variants.{NotTriples, TooMany, Grade, Outside, NoRoom, NotOutline, Kind, NotSound, NoVertex}
+use Rattle.replies.specs.declared.Refusal.the-variants.{NotTriples, TooMany, Grade, Outside, NoRoom, NotOutline, Kind, NotSound, NoVertex, NotTaken}
 
 -- the answer that has a reply, for any type of answers: `done` for 0, else the refusal
 unfoldable pub from : {A : Type 0} → (ℕ → A) → (Refusal → A) → ℕ → ℕ → A
@@ -21,7 +21,7 @@ from done refused k n = elim (eqb k 0) [
           | true ↦ Outside n
           | false ↦ elim (eqb k 5) [
             | true ↦ NoRoom n
-            | false ↦ elim (eqb k 6) [ true ↦ NotOutline | false ↦ elim (eqb k 7) [ true ↦ Kind n | false ↦ elim (eqb k 8) [ true ↦ NotSound n | false ↦ NoVertex n ] ] ]
+            | false ↦ elim (eqb k 6) [ true ↦ NotOutline | false ↦ elim (eqb k 7) [ true ↦ Kind n | false ↦ elim (eqb k 8) [ true ↦ NotSound n | false ↦ elim (eqb k 9) [ true ↦ NoVertex n | false ↦ NotTaken n ] ] ] ]
           ]
         ]
       ]
@@ -40,3 +40,4 @@ from-refusal done refused NotOutline = refl
 from-refusal done refused (Kind k) = refl
 from-refusal done refused (NotSound i) = refl
 from-refusal done refused (NoVertex i) = refl
+from-refusal done refused (NotTaken i) = refl

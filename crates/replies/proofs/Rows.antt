@@ -10,7 +10,7 @@ use Rattle.replies.specs.Replies.{Row, Reply, firstRow, roomRow, written
 use lib.Dec.{eqb}
 use Rattle.replies.specs.Refusals.{refusalOf, Codes}
 use Rattle.replies.specs.declared.Refusal.{Refusal}
-use Rattle.replies.specs.declared.Refusal.the-variants.{NotTriples, TooMany, Grade, Outside, NoRoom, NotOutline, Kind, NotSound, NoVertex}
+use Rattle.replies.specs.declared.Refusal.the-variants.{NotTriples, TooMany, Grade, Outside, NoRoom, NotOutline, Kind, NotSound, NoVertex, NotTaken}
 
 abbrev pub NoneHold : List Row → Type 0
 NoneHold [] = Unit {0}
@@ -28,7 +28,7 @@ none-last [] last h = refl
 none-last (row ∷ rows) last h = rw (h .0, firstRow) (none-last rows last (h .1))
 
 -- rows after rows: where no earlier row holds the later ones reply
-pub rows-append : (rs qs : List Row) (last : Reply) → firstRow (rs ++ qs) last ≡ firstRow rs (firstRow qs last)
+pub rows-append {ℓ} : {A : Type ℓ} (rs qs : List (Bool × A)) (last : A) → firstRow (rs ++ qs) last ≡ firstRow rs (firstRow qs last)
 unfolding firstRow
 rows-append [] qs last = refl
 rows-append (r ∷ rs) qs last = λ i. elim (r .0) [ true ↦ r .1 | false ↦ rows-append rs qs last i ]
@@ -54,6 +54,7 @@ refusal-some NotOutline = refl
 refusal-some (Kind k) = refl
 refusal-some (NotSound i) = refl
 refusal-some (NoVertex i) = refl
+refusal-some (NotTaken i) = refl
 
 pub refused-written {ℓ} : {A : Type ℓ} (r : Refusal) {reply : Reply} (made room : List A) → refusalOf r ≡ reply → room ≡ written reply made room
 unfolding written

@@ -15,16 +15,17 @@ use Rattle.contacts.specs.declared.Vertex.{Vertex}
 abbrev pub Reply : Type 0
 Reply = ℕ × ℕ
 
--- A row: whether it holds, and what is then replied. The first row that holds replies; else the last word.
+-- A row: whether it holds, and what is then replied.
 abbrev pub Row : Type 0
 Row = Bool × Reply
 
-unfoldable pub firstRow : List Row → Reply → Reply
+-- The first row that holds replies, or answers whatever else rows have beside them; else the last word.
+unfoldable pub firstRow {ℓ} : {A : Type ℓ} → List (Bool × A) → A → A
 firstRow [] last = last
 firstRow (row ∷ rows) last = elim (row .0) [ true ↦ row .1 | false ↦ firstRow rows last ]
 
 -- 1, numbers lent not a multiple of three: how many.
-unfoldable pub triplesRow : List ℤ → Row
+unfoldable pub triplesRow {ℓ} : {A : Type ℓ} → List A → Row
 triplesRow l = (not (eqb (length l % 3) 0), (1, length l))
 
 -- 3, grade not 1 to 8: the grade.

@@ -13,6 +13,7 @@ pub enum Refusal {
     Kind(u32),
     NotSound(usize),
     NoVertex(usize),
+    NotTaken(usize),
 }
 
 // A reply, and the number with it.

@@ -25,5 +25,6 @@ pub fn code(r: Refusal) -> Code
         Refusal::Kind(k) => coded(7, k as u64),
         Refusal::NotSound(i) => coded(8, i as u64),
         Refusal::NoVertex(i) => coded(9, i as u64),
+        Refusal::NotTaken(i) => coded(13, i as u64),
     }
 }

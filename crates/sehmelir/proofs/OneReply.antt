@@ -1,8 +1,8 @@
--- A reply is what document 01 says, number by number, so a promise allows one. Assumes nothing.
+-- A reply is what the documents say, number by number, so a promise allows one. Assumes nothing.
 use mathlib.Core.Path.{_≡_, sym, _∙_}
 use Prim.Native.Nat.{ℕ}
 use Rattle.replies.specs.Replies.{Reply as Answer}
-use Rattle.sehmelir.specs.Boundary.{Replies, OneDrawReply, OneKeepReply, OneReadReply, OneReplaceReply, OneReachReply}
+use Rattle.sehmelir.specs.Boundary.{Replies, OneDrawReply, OneKeepReply, OneReadReply, OneReplaceReply, OneReachReply, OneTelling, OneImportReply, OneExportReply}
 use Rattle.sehmelir.specs.declared.Reply.{Reply}
 
 one-reply : (t : Answer) (g : ℕ) (r q : Reply) → Replies r t g → Replies q t g → r ≡ q
@@ -23,3 +23,12 @@ one-replace-reply s k v r q o p a b = (one-reply _ _ r q (a .replies) (b .replie
 
 pub one-reach-reply : OneReachReply
 one-reach-reply s k r q a b = one-reply _ _ r q (a .replies) (b .replies)
+
+pub one-telling : OneTelling
+one-telling t p q a b = λ i. record { reason = (a .reason ∙ sym (b .reason)) i; whole = (a .whole ∙ sym (b .whole)) i }
+
+pub one-import-reply : OneImportReply
+one-import-reply floats out r q o p a b = (one-reply _ _ r q (a .replies) (b .replies), a .out ∙ sym (b .out))
+
+pub one-export-reply : OneExportReply
+one-export-reply path out r q o p a b = (one-reply _ _ r q (a .replies) (b .replies), a .out ∙ sym (b .out))

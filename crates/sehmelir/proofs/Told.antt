@@ -1,16 +1,21 @@
 -- A reply from what the code has put into it. Assumes nothing.
 use mathlib.Core.Path.{_≡_, ap, _∙_}
 use mathlib.Core.List.{List}
+use mathlib.Core.Option.{none}
 use Prim.Native.Nat.{ℕ}
-use lib.IntN.{ℤ}
+use lib.IntN.{ℤ, pos}
 use Rattle.contacts.specs.declared.Vertex.{Vertex}
 use Rattle.replies.specs.Replies.{Reply as Answer}
 use Rattle.replies.specs.Refusals.{Codes}
 use Rattle.replies.specs.declared.Code.{Code}
 use Rattle.editing.specs.Replacing.{replyOfReplaced, Replaces}
 use Rattle.editing.specs.declared.Replaced.{Replaced}
-use Rattle.sehmelir.specs.Boundary.{Replies, ReplaceReplies}
+use Rattle.oldest.specs.Taken.{reasonOf, wholeIn}
+use Rattle.oldest.specs.declared.Taken.{Taken as Answered}
+use Rattle.oldest.specs.declared.Taken.the-variants.{Whole}
+use Rattle.sehmelir.specs.Boundary.{Replies, ReplaceReplies, wholeOr0, Tells}
 use Rattle.sehmelir.specs.declared.Reply.{Reply}
+use Rattle.sehmelir.specs.declared.Taken.{Taken}
 
 pub told : {p : Reply} {a n : ℕ} {t : Answer} → (a, n) ≡ t → (p .reply ≡ a) × (p .number ≡ n) × (p .grade ≡ 0) → Replies p t 0
 told e h = record { reply = h .0 ∙ ap (λ (x : Answer). x .0) e; number = h .1 ∙ ap (λ (x : Answer). x .1) e; grade = h .2 }
@@ -29,3 +34,16 @@ pub replaced-told : {s s₁ : List ℕ} {k : ℕ} {v : Vertex} {a : Replaced} {p
 replaced-told {s} {s₁} {k} {v} {a} {p} ex ey er h q =
     let r : ReplaceReplies s k v p s₁ = record { replies = told-as (h .reply) q; store = h .store } in
     rw (ex, ey, er) at r
+
+-- ---- a float: its whole number, or a reason without one
+
+pub tells-whole : {p : Taken} {t : Answered} {n : ℤ} → t ≡ Whole n → p .reason ≡ 0 → p .whole ≡ n → Tells p t
+unfolding reasonOf wholeIn wholeOr0
+tells-whole e f g = rw e (record { reason = f; whole = g })
+
+pub tells-reason : {p : Taken} {s t : Answered} {k : ℕ} → t ≡ s → k ≡ reasonOf s → wholeIn s ≡ none → (p .reason ≡ k) × (p .whole ≡ pos 0) → Tells p t
+unfolding wholeOr0
+tells-reason e f g h = rw e (record { reason = h .0 ∙ f; whole = h .1 ∙ rw (g, wholeOr0) })
+
+pub tells-as : {p : Taken} {s t : Answered} → s ≡ t → Tells p s → Tells p t
+tells-as e h = rw e at h

@@ -1,8 +1,10 @@
 -- The calls as numbers: the promise of each call, through the definition that gives its answers their numbers.
 use mathlib.Core.Path.{_≡_}
 use mathlib.Core.List.{List}
+use mathlib.Core.Option.{none, some}
 use Prim.Native.Nat.{ℕ}
-use lib.IntN.{ℤ}
+use lib.Ieee.{Float}
+use lib.IntN.{ℤ, pos}
 use lib.ListN.{length}
 use Rattle.contacts.specs.declared.Vertex.{Vertex}
 use Rattle.replies.specs.Replies.{Reply as Answer}
@@ -11,7 +13,11 @@ use Rattle.keeping.specs.Keeping.{keepReply, keepOut}
 use Rattle.reading.specs.Reading.{readReply, readGrade, readOut}
 use Rattle.editing.specs.Replacing.{replaceReply, replaceOut}
 use Rattle.reaching.specs.Replies.{reachReply}
+use Rattle.oldest.specs.Taken.{wholeIn, reasonOf}
+use Rattle.oldest.specs.Calls.{importReply, importOut, exportReply, exportOut}
+use Rattle.oldest.specs.declared.Taken.{Taken as Answered}
 use Rattle.sehmelir.specs.declared.Reply.{Reply}
+use Rattle.sehmelir.specs.declared.Taken.{Taken}
 
 -- document 01's reply and number, and a grade beside them
 pub record Replies (r : Reply) (told : Answer) (g : ℕ) : Type 0 where
@@ -43,6 +49,24 @@ pub record ReplaceReplies (store₀ : List ℕ) (index : ℕ) (v : Vertex) (r : 
 pub record ReachReplies (store : List ℕ) (index : ℕ) (r : Reply) : Type 0 where
   pub replies : Replies r (reachReply store index) 0
 
+-- Document 02, request 5: what a float is taken for, its reason's number and the whole number, 0 when refused
+unfoldable pub wholeOr0 : Answered → ℤ
+wholeOr0 t = elim (wholeIn t) [ some n ↦ n | none ↦ pos 0 ]
+
+pub record Tells (p : Taken) (t : Answered) : Type 0 where
+  pub reason : p .reason ≡ reasonOf t
+  pub whole : p .whole ≡ wholeOr0 t
+
+-- import: reply, number and every lent number afterwards
+pub record ImportReplies (floats : List Float) (out₀ : List ℤ) (r : Reply) (out₁ : List ℤ) : Type 0 where
+  pub replies : Replies r (importReply floats (length out₀)) 0
+  pub out : out₁ ≡ importOut floats out₀
+
+-- export: reply, number and every lent float afterwards
+pub record ExportReplies (path : List ℤ) (out₀ : List Float) (r : Reply) (out₁ : List Float) : Type 0 where
+  pub replies : Replies r (exportReply path (length out₀)) 0
+  pub out : out₁ ≡ exportOut path out₀
+
 -- Document 01, "Promises and hollow programs": two outcomes that a call's promise allows coincide.
 abbrev pub OneDrawReply : Type 0
 OneDrawReply = (path : List ℤ) (g : ℕ) (out : List ℤ) (r q : Reply) (o p : List ℤ) → DrawReplies path g out r o → DrawReplies path g out q p → (r ≡ q) × (o ≡ p)
@@ -58,3 +82,12 @@ OneReplaceReply = (s : List ℕ) (k : ℕ) (v : Vertex) (r q : Reply) (o p : Lis
 
 abbrev pub OneReachReply : Type 0
 OneReachReply = (s : List ℕ) (k : ℕ) (r q : Reply) → ReachReplies s k r → ReachReplies s k q → r ≡ q
+
+abbrev pub OneTelling : Type 0
+OneTelling = (t : Answered) (p q : Taken) → Tells p t → Tells q t → p ≡ q
+
+abbrev pub OneImportReply : Type 0
+OneImportReply = (floats : List Float) (out : List ℤ) (r q : Reply) (o p : List ℤ) → ImportReplies floats out r o → ImportReplies floats out q p → (r ≡ q) × (o ≡ p)
+
+abbrev pub OneExportReply : Type 0
+OneExportReply = (path : List ℤ) (out : List Float) (r q : Reply) (o p : List Float) → ExportReplies path out r o → ExportReplies path out q p → (r ≡ q) × (o ≡ p)

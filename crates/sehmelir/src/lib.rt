@@ -2,18 +2,23 @@
 use drawing::Drawn;
 use editing::Replaced;
 use keeping::Kept;
+use oldest::Exported;
+use oldest::Imported;
 use reaching::Reached;
 use reading::Read;
 use replies::Refusal;
 use replies::refusals::code;
 ghost use mathlib.Core.Path.{_≡_};
+ghost use lib.IntN.{pos};
 ghost use Rattle.replies.specs.Refusals.{refusalOf};
 ghost use Rattle.drawing.specs.Drawing.{replyOfDrawn};
 ghost use Rattle.keeping.specs.Keeping.{replyOfKept};
 ghost use Rattle.reading.specs.Reading.{replyOfRead, gradeOfRead};
 ghost use Rattle.editing.specs.Replacing.{replyOfReplaced};
-ghost use Rattle.sehmelir.specs.Boundary.{Replies, DrawReplies, KeepReplies, ReadReplies, ReplaceReplies, ReachReplies};
+ghost use Rattle.sehmelir.specs.Boundary.{Replies, DrawReplies, KeepReplies, ReadReplies, ReplaceReplies, ReachReplies, Tells, ImportReplies, ExportReplies};
 ghost use Rattle.reaching.specs.Replies.{replyOfReached};
+ghost use Rattle.oldest.specs.Taken.{coordinateOf, widthOf};
+ghost use Rattle.oldest.specs.Answers.{replyOfImported, replyOfExported};
 
 // Document 01's reply, the grade beside it (of a read outline, else 0), and the number with it.
 #[repr(C)]
@@ -21,6 +26,13 @@ pub struct Reply {
     pub reply: u32,
     pub grade: u32,
     pub number: u64,
+}
+
+// What a float is taken for: 0 and the whole number; or the reason, 1 to 6, and 0.
+#[repr(C)]
+pub struct Taken {
+    pub reason: u32,
+    pub whole: i32,
 }
 
 // A refusal as a reply.
@@ -96,6 +108,51 @@ fn reached(answer: Reached) -> Reply
     }
 }
 
+// What importing came to, as a reply.
+fn imported(answer: Imported) -> Reply
+    ensures { λ p. ⌜ Replies p (replyOfImported answer) 0 ⌝ }
+{
+    match answer {
+        Imported::Vertices(n) => plain(0, n as u64),
+        Imported::Refused(r) => refusal(r),
+    }
+}
+
+// What exporting came to, as a reply.
+fn exported(answer: Exported) -> Reply
+    ensures { λ p. ⌜ Replies p (replyOfExported answer) 0 ⌝ }
+{
+    match answer {
+        Exported::Vertices(n) => plain(0, n as u64),
+        Exported::Refused(r) => refusal(r),
+    }
+}
+
+// A reason, without a whole number.
+fn not_taken(reason: u32) -> Taken
+    ensures { λ p. ⌜ (p .reason ≡ reason) × (p .whole ≡ pos 0) ⌝ }
+{
+    Taken { reason, whole: 0 }
+}
+
+// What a float is taken for, as numbers.
+fn float_taken(t: oldest::Taken) -> Taken
+    ensures { λ p. ⌜ Tells p t ⌝ }
+{
+    match t {
+        oldest::Taken::Whole(n) => Taken {
+            reason: 0,
+            whole: n,
+        },
+        oldest::Taken::NotANumber(_) => not_taken(1),
+        oldest::Taken::Infinite(_) => not_taken(2),
+        oldest::Taken::Fraction(_) => not_taken(3),
+        oldest::Taken::TooLarge(_) => not_taken(4),
+        oldest::Taken::NegativeWidth(_) => not_taken(5),
+        oldest::Taken::OddWidth(_) => not_taken(6),
+    }
+}
+
 // Draws a path's edges into lent numbers, four an edge.
 #[no_mangle]
 pub extern "C" fn sehmelir_draw(path: &[i32], grade: u32, out: &mut [i32]) -> Reply
@@ -140,4 +197,36 @@ pub extern "C" fn sehmelir_reach(store: &[u8], index: usize) -> Reply
     ensures { λ p. ⌜ ReachReplies (now (store .entry)) index p ⌝ }
 {
     reached(calls::reach(store, index))
+}
+
+// Takes a float of the oldest chunks as a coordinate.
+#[no_mangle]
+pub extern "C" fn sehmelir_take_coordinate(value: f32) -> Taken
+    ensures { λ p. ⌜ Tells p (coordinateOf value) ⌝ }
+{
+    float_taken(oldest::taking::coordinate(value))
+}
+
+// Takes a float of the oldest chunks as a width; the whole number is the radius.
+#[no_mangle]
+pub extern "C" fn sehmelir_take_width(value: f32) -> Taken
+    ensures { λ p. ⌜ Tells p (widthOf value) ⌝ }
+{
+    float_taken(oldest::taking::width(value))
+}
+
+// Takes the floats of the oldest chunks, three a vertex, into lent numbers, three a vertex.
+#[no_mangle]
+pub extern "C" fn sehmelir_import(numbers: &[f32], out: &mut [i32]) -> Reply
+    ensures { λ p. ⌜ ImportReplies (now (numbers .entry)) (now (out .entry)) p (now (out .exit)) ⌝ }
+{
+    imported(oldest::importing::import(numbers, out))
+}
+
+// Writes a path, three numbers a vertex, as the floats of the oldest chunks.
+#[no_mangle]
+pub extern "C" fn sehmelir_export(path: &[i32], out: &mut [f32]) -> Reply
+    ensures { λ p. ⌜ ExportReplies (now (path .entry)) (now (out .entry)) p (now (out .exit)) ⌝ }
+{
+    exported(oldest::exporting::export(path, out))
 }

@@ -31,10 +31,10 @@ impl Reply {
 }
 
 /// Replies: 1, "numbers lent not a multiple of three", with "how many".
-fn tested_numbers(numbers: &[i32]) -> Result<(), Reply> {
-    match numbers.len() % 3 {
+pub(crate) fn tested_numbers(count: usize) -> Result<(), Reply> {
+    match count % 3 {
         0 => Ok(()),
-        _ => Err(Reply::new(1, numbers.len() as u64)),
+        _ => Err(Reply::new(1, count as u64)),
     }
 }
 
@@ -47,7 +47,7 @@ fn tested_grade(grade: u32) -> Result<(), Reply> {
 }
 
 /// Replies: 2, "above 4,096 vertices", with "vertices".
-fn tested_count(count: u64) -> Result<(), Reply> {
+pub(crate) fn tested_count(count: u64) -> Result<(), Reply> {
     match count {
         0..=MOST_VERTICES => Ok(()),
         _ => Err(Reply::new(2, count)),
@@ -64,7 +64,7 @@ fn tested_limits(path: &[Vertex]) -> Result<(), Reply> {
 
 /// Replies: 5, "result longer than the room lent", with what is "needed":
 /// `count` things of `size` entries each.
-fn tested_room(count: usize, size: usize, room: usize) -> Result<(), Reply> {
+pub(crate) fn tested_room(count: usize, size: usize, room: usize) -> Result<(), Reply> {
     if size * count <= room {
         Ok(())
     } else {
@@ -74,7 +74,7 @@ fn tested_room(count: usize, size: usize, room: usize) -> Result<(), Reply> {
 
 /// Draw, keep: the path of the lent numbers, three a vertex, or the refusal.
 fn lent_path(numbers: &[i32], grade: u32) -> Result<Vec<Vertex>, Reply> {
-    tested_numbers(numbers)?;
+    tested_numbers(numbers.len())?;
     tested_grade(grade)?;
     tested_count(numbers.len() as u64 / 3)?;
     let vertex = |n: &[i32]| Vertex::new(n[0] as i64, n[1] as i64, n[2] as i64);
@@ -132,7 +132,7 @@ fn kept_path(store: &[u8]) -> Result<Kept, Reply> {
 }
 
 /// A call's reply, whether it refused or not.
-fn settle(call: impl FnOnce() -> Result<Reply, Reply>) -> Reply {
+pub(crate) fn settle(call: impl FnOnce() -> Result<Reply, Reply>) -> Reply {
     call().unwrap_or_else(|refusal| refusal)
 }
 

@@ -1,4 +1,5 @@
-//! The variable-width stroke, written plainly from document 01.
+//! The variable-width stroke, written plainly from document 01, and what
+//! document 02 adds to it.
 //!
 //! One function for each rule, in the document's order. Nothing here is
 //! clever: it is the yardstick against which other programs are measured.
@@ -10,6 +11,7 @@
 //! * [`outline`] holds "The kept outline"
 //! * [`calls`] holds the four calls, "Replies, tested in this order", and how
 //!   far replacing a vertex shows
+//! * [`oldest`] holds document 02's request 5, "The oldest chunks"
 //! * [`random`] holds the generator behind the tests and the lists of cases
 
 pub mod arcs;
@@ -17,5 +19,6 @@ pub mod calls;
 pub mod chains;
 pub mod contacts;
 pub mod numbers;
+pub mod oldest;
 pub mod outline;
 pub mod random;

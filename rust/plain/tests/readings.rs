@@ -7,6 +7,7 @@ use plain::calls::{keep, read, replace, Reply};
 use plain::chains::bodies;
 use plain::contacts::{Section, Vertex};
 use plain::numbers::{integer_root, Point};
+use plain::oldest::{coordinate, coordinate_back, export, import, width, width_back, Reason};
 
 #[test]
 fn reading_1_numbers_are_64_bits_wide() {
@@ -142,4 +143,46 @@ fn forgetting_no_section_on_a_thin_step() {
     assert_eq!(bodies[3].len(), 4);
     assert_eq!(bodies[3][2], [20, -1, 20, 1]);
     assert_eq!(bodies[3][3], [40, 1, 40, -1]);
+}
+
+#[test]
+fn reading_20_the_first_reason_that_applies() {
+    assert_eq!(width(650.0), Ok(325));
+    assert_eq!(width(-3.0), Err(Reason::NegativeWidth));
+    assert_eq!(width(-2.5), Err(Reason::Fraction));
+    assert_eq!(width(-1e30), Err(Reason::TooLarge));
+    assert_eq!(width(3.0), Err(Reason::OddWidth));
+    assert_eq!(width(536870912.0), Ok(268435456));
+    assert_eq!(width(536870976.0), Err(Reason::TooLarge));
+    assert_eq!(coordinate(-0.0), Ok(0));
+    assert_eq!(coordinate(f32::NAN), Err(Reason::NotANumber));
+    assert_eq!(coordinate(f32::NEG_INFINITY), Err(Reason::Infinite));
+    assert_eq!(coordinate(-268435456.0), Ok(-268435456));
+    assert_eq!(coordinate(268435488.0), Err(Reason::TooLarge));
+    let reasons = [
+        Reason::NotANumber,
+        Reason::Infinite,
+        Reason::Fraction,
+        Reason::TooLarge,
+        Reason::NegativeWidth,
+        Reason::OddWidth,
+    ];
+    assert_eq!(reasons.map(|reason| reason as u32), [1, 2, 3, 4, 5, 6]);
+}
+
+#[test]
+fn reading_20_only_exact_floats_are_written() {
+    assert_eq!(coordinate_back(16777216), Some(16777216.0));
+    assert_eq!(coordinate_back(16777217), None);
+    assert_eq!(coordinate_back(268435488), None);
+    assert_eq!(width_back(8388609), Some(16777218.0));
+    assert_eq!(width_back(16777217), None);
+    assert_eq!(width_back(-1), None);
+    assert_eq!(width_back(268435456), Some(536870912.0));
+    assert_eq!(import(&[0.0, 0.0, 2.0], &mut [0; 2]), Reply::new(5, 1));
+    assert_eq!(import(&[0.0, 0.5, 3.0], &mut []), Reply::new(13, 1));
+    assert_eq!(export(&[0, 0, -1, 0], &mut []), Reply::new(1, 4));
+    let mut room = [7.0; 4];
+    assert_eq!(export(&[1, -2, 3], &mut room), Reply::new(0, 1));
+    assert_eq!(room, [1.0, -2.0, 6.0, 7.0]);
 }

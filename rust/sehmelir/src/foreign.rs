@@ -1,6 +1,6 @@
 //! The archive's calls, as `include/sehmelir.h` declares them, on slices.
 
-use crate::Refusal;
+use crate::{Refusal, Untaken};
 
 /// `struct sehmelir_reply`.
 #[repr(C)]
@@ -27,7 +27,32 @@ impl Reply {
             7 => Refusal::Kind(word),
             8 => Refusal::NotSound(long),
             9 => Refusal::NoVertex(long),
+            13 => Refusal::NotTaken(long),
             reply => panic!("the archive gives reply {reply}, which this crate does not know"),
+        })
+    }
+}
+
+/// `struct sehmelir_taken`.
+#[repr(C)]
+pub struct Taken {
+    reason: u32,
+    whole: i32,
+}
+
+impl Taken {
+    /// The whole number, or why there is none, of the float that was asked
+    /// about.
+    pub fn whole(&self, value: f32) -> Result<i32, Untaken> {
+        Err(match self.reason {
+            0 => return Ok(self.whole),
+            1 => Untaken::NotANumber(value),
+            2 => Untaken::Infinite(value),
+            3 => Untaken::Fraction(value),
+            4 => Untaken::TooLarge(value),
+            5 => Untaken::NegativeWidth(value),
+            6 => Untaken::OddWidth(value),
+            reason => panic!("the archive gives reason {reason}, which this crate does not know"),
         })
     }
 }
@@ -61,6 +86,19 @@ extern "C" {
     ) -> Reply;
 
     fn sehmelir_reach(store: *const u8, store_len: usize, index: usize) -> Reply;
+
+    fn sehmelir_take_coordinate(value: f32) -> Taken;
+
+    fn sehmelir_take_width(value: f32) -> Taken;
+
+    fn sehmelir_import(
+        numbers: *const f32,
+        numbers_len: usize,
+        out: *mut i32,
+        out_len: usize,
+    ) -> Reply;
+
+    fn sehmelir_export(path: *const i32, path_len: usize, out: *mut f32, out_len: usize) -> Reply;
 }
 
 // SAFETY, of every call below: the archive asks for pointers that are not null
@@ -103,4 +141,20 @@ pub fn replace(store: &mut [u8], index: usize, x: i32, y: i32, radius: i32) -> R
 
 pub fn reach(store: &[u8], index: usize) -> Reply {
     unsafe { sehmelir_reach(store.as_ptr(), store.len(), index) }
+}
+
+pub fn take_coordinate(value: f32) -> Taken {
+    unsafe { sehmelir_take_coordinate(value) }
+}
+
+pub fn take_width(value: f32) -> Taken {
+    unsafe { sehmelir_take_width(value) }
+}
+
+pub fn import(numbers: &[f32], out: &mut [i32]) -> Reply {
+    unsafe { sehmelir_import(numbers.as_ptr(), numbers.len(), out.as_mut_ptr(), out.len()) }
+}
+
+pub fn export(path: &[i32], out: &mut [f32]) -> Reply {
+    unsafe { sehmelir_export(path.as_ptr(), path.len(), out.as_mut_ptr(), out.len()) }
 }

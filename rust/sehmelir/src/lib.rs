@@ -3,10 +3,12 @@
 
 mod foreign;
 mod refusal;
+mod untaken;
 
 use std::ops::RangeInclusive;
 
 pub use refusal::Refusal;
+pub use untaken::Untaken;
 
 /// The most vertices that a path may have.
 pub const MOST_VERTICES: usize = 4_096;
@@ -211,6 +213,101 @@ pub fn replace(
 /// ```
 pub fn reach(store: &[u8], index: usize) -> Result<usize, Refusal> {
     foreign::reach(store, index).number()
+}
+
+/// Takes a float of the oldest chunks as a coordinate: a whole number from
+/// -268,435,456 to 268,435,456. Minus zero counts as zero. Else the float comes
+/// back, with the first reason that applies.
+///
+/// ```
+/// use sehmelir::{take_coordinate, Untaken};
+///
+/// assert_eq!(take_coordinate(-1500.0), Ok(-1500));
+/// assert_eq!(take_coordinate(-0.0), Ok(0));
+/// assert_eq!(take_coordinate(2.5), Err(Untaken::Fraction(2.5)));
+/// assert_eq!(take_coordinate(1e30), Err(Untaken::TooLarge(1e30)));
+/// ```
+pub fn take_coordinate(value: f32) -> Result<i32, Untaken> {
+    foreign::take_coordinate(value).whole(value)
+}
+
+/// Takes a float of the oldest chunks as a full width, an even whole number
+/// from 0 to 536,870,912, and returns the radius, which is half of it. Minus
+/// zero counts as zero. Else the float comes back, with the first reason that
+/// applies.
+///
+/// ```
+/// use sehmelir::{take_width, Untaken};
+///
+/// assert_eq!(take_width(650.0), Ok(325));
+/// assert_eq!(take_width(3.0), Err(Untaken::OddWidth(3.0)));
+/// assert_eq!(take_width(-3.0), Err(Untaken::NegativeWidth(-3.0)));
+/// assert_eq!(take_width(-2.5), Err(Untaken::Fraction(-2.5)));
+/// ```
+pub fn take_width(value: f32) -> Result<i32, Untaken> {
+    foreign::take_width(value).whole(value)
+}
+
+/// Imports the floats of the oldest chunks, x, y and full width of each vertex
+/// in millimetres, as a path in lent numbers, x, y and radius of each vertex,
+/// and returns how many vertices there are.
+///
+/// Numbers of `out` past the path stay as they were. What is imported is within
+/// the limits of a path.
+///
+/// ```
+/// let old = [0.0, -0.0, 10.0, 20.0, 0.0, 10.0];
+/// let mut path = [7; 8];
+/// assert_eq!(sehmelir::import(&old, &mut path), Ok(2));
+/// assert_eq!(path, [0, 0, 5, 20, 0, 5, 7, 7]);
+/// ```
+///
+/// # Refusals
+///
+/// In this order: [`NotTriples`](Refusal::NotTriples),
+/// [`TooMany`](Refusal::TooMany), [`NotTaken`](Refusal::NotTaken),
+/// [`NoRoom`](Refusal::NoRoom) with the vertices needed. A refusal leaves `out`
+/// as it was. Beside `NotTaken` the reason is had by [`take_coordinate`] or, at
+/// every third place, by [`take_width`].
+///
+/// ```
+/// use sehmelir::{import, take_width, Refusal, Untaken};
+///
+/// let old = [0.0, 0.0, 10.0, 20.0, 0.0, 7.0];
+/// assert_eq!(import(&old, &mut [0; 6]), Err(Refusal::NotTaken(5)));
+/// assert_eq!(take_width(old[5]), Err(Untaken::OddWidth(7.0)));
+/// assert_eq!(import(&old[..3], &mut []), Err(Refusal::NoRoom(1)));
+/// ```
+pub fn import(numbers: &[f32], out: &mut [i32]) -> Result<usize, Refusal> {
+    foreign::import(numbers, out).number()
+}
+
+/// Exports a path as the floats of the oldest chunks, x, y and full width of
+/// each vertex, into lent floats, and returns how many vertices there are.
+///
+/// A number is written only where its float gives it back unchanged: within the
+/// limits, and of at most 24 binary digits but for zeros at the end. Floats of
+/// `out` past the vertices stay as they were.
+///
+/// ```
+/// let mut old = [7.0; 4];
+/// assert_eq!(sehmelir::export(&[-1500, 20, 325], &mut old), Ok(1));
+/// assert_eq!(old, [-1500.0, 20.0, 650.0, 7.0]);
+/// ```
+///
+/// # Refusals
+///
+/// Those of [`import`]; [`NotTaken`](Refusal::NotTaken) is of a number that no
+/// float is, or that lies outside the limits.
+///
+/// ```
+/// use sehmelir::{export, Refusal};
+///
+/// assert_eq!(export(&[0, 16777217, 5], &mut [0.0; 3]), Err(Refusal::NotTaken(1)));
+/// assert_eq!(export(&[0, 16777218, -1], &mut [0.0; 3]), Err(Refusal::NotTaken(2)));
+/// ```
+pub fn export(path: &[i32], out: &mut [f32]) -> Result<usize, Refusal> {
+    foreign::export(path, out).number()
 }
 
 /// A path's edges in memory of their own: [`draw`] without a room.

@@ -20,7 +20,8 @@ pub enum Refusal {
     Outside(usize),
     /// 5: the result has so many edges ([`draw`](crate::draw)), bytes
     /// ([`keep`](crate::keep), [`replace`](crate::replace)) or vertices
-    /// ([`read`](crate::read)), and the room lent is shorter.
+    /// ([`read`](crate::read), [`import`](crate::import),
+    /// [`export`](crate::export)), and the room lent is shorter.
     NoRoom(usize),
     /// 6: the store has under 24 bytes, or its edition is not 1, or it is
     /// shorter than its header says.
@@ -32,6 +33,10 @@ pub enum Refusal {
     NotSound(usize),
     /// 9: the outline has no vertex of this index.
     NoVertex(usize),
+    /// 13: of the numbers lent to [`import`](crate::import) or
+    /// [`export`](crate::export) the one at this place, counted from 0, is the
+    /// first that is not taken.
+    NotTaken(usize),
 }
 
 impl Refusal {
@@ -80,6 +85,9 @@ impl Display for Refusal {
                 write!(formatter, "the outline is not sound, first at byte {byte}")
             }
             Refusal::NoVertex(index) => write!(formatter, "the outline has no vertex {index}"),
+            Refusal::NotTaken(place) => {
+                write!(formatter, "the number at place {place} is not taken")
+            }
         }
     }
 }

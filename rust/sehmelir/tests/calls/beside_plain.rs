@@ -15,16 +15,16 @@ const VERTICES: u64 = 12;
 
 /// How often each reply was given.
 #[derive(Default)]
-struct Tally([usize; 10]);
+pub struct Tally([usize; 20]);
 
 impl Tally {
-    fn count(&mut self, reply: Reply) {
+    pub fn count(&mut self, reply: Reply) {
         self.0[reply.reply as usize] += 1;
     }
 
     /// That the cases gave each of these replies, and more than now and then,
     /// and no other.
-    fn assert_just(&self, replies: &[usize]) {
+    pub fn assert_just(&self, replies: &[usize]) {
         for (reply, &count) in self.0.iter().enumerate() {
             let least = if replies.contains(&reply) { 10 } else { 0 };
             assert!(count >= least, "{count} of reply {reply}: {:?}", self.0);
@@ -34,7 +34,7 @@ impl Tally {
 }
 
 /// A reply of `plain` as the wrapper gives it, but for the grade.
-fn answer(reply: Reply) -> Result<usize, Refusal> {
+pub fn answer(reply: Reply) -> Result<usize, Refusal> {
     let number = reply.number as usize;
     let refusal = match reply.reply {
         0 => return Ok(number),
@@ -47,7 +47,8 @@ fn answer(reply: Reply) -> Result<usize, Refusal> {
         7 => Refusal::Kind(reply.number.try_into().unwrap()),
         8 => Refusal::NotSound(number),
         9 => Refusal::NoVertex(number),
-        other => panic!("{other} is no reply of document 01"),
+        13 => Refusal::NotTaken(number),
+        other => panic!("{other} is no reply of the documents"),
     };
     Err(refusal)
 }

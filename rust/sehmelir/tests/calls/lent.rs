@@ -72,3 +72,22 @@ pub fn replace(store: &[u8], index: usize, [x, y, radius]: [i32; 3]) -> Outcome<
 pub fn reach(store: &[u8], index: usize) -> Result<usize, Refusal> {
     lend_to_read(store, |store| sehmelir::reach(store, index))
 }
+
+pub fn import(numbers: &[f32], room: &[i32]) -> Outcome<usize, i32> {
+    // NaNs are compared by their bits, which is how they are lent
+    let bits: Vec<u32> = numbers.iter().map(|value| value.to_bits()).collect();
+    lend_to_read(&bits, |bits| {
+        lend(room, |out| sehmelir::import(as_floats(bits), out))
+    })
+}
+
+pub fn export(path: &[i32], room: &[f32]) -> Outcome<usize, f32> {
+    lend_to_read(path, |path| lend(room, |out| sehmelir::export(path, out)))
+}
+
+/// The floats of these bits, where they lie.
+fn as_floats(bits: &[u32]) -> &[f32] {
+    // SAFETY: both types have the same size and alignment, and any bits are a
+    // float
+    unsafe { std::slice::from_raw_parts(bits.as_ptr().cast(), bits.len()) }
+}

@@ -5,5 +5,6 @@ mod beside_plain;
 mod examples;
 mod lent;
 mod making;
+mod oldest;
 mod refusals;
 mod stack;

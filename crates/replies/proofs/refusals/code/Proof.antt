@@ -66,6 +66,12 @@ enum-known-r-8 c = search needs
 coded-requires-9 : tie.Need-coded-requires-9
 coded-requires-9 c κs = search needs
 
+enum-known-r-9 : tie.Need-enum-known-r-9
+enum-known-r-9 c = search needs
+
+coded-requires-10 : tie.Need-coded-requires-10
+coded-requires-10 c κs = search needs
+
 returns : tie.Need-returns
 unfolding refusalOf
 returns c = coded-told (ap refusalOf (sym (c .before .before .r .given .1))) (c .coded .ensures)
@@ -102,6 +108,10 @@ returns-9 : tie.Need-returns-9
 unfolding refusalOf
 returns-9 c = coded-told (ap refusalOf (sym (c .before .before .r8 .given .1))) (c .coded9 .ensures)
 
+returns-10 : tie.Need-returns-10
+unfolding refusalOf
+returns-10 c = coded-told (ap refusalOf (sym (c .before .before .r9 .given .1))) (c .coded10 .ensures)
+
 pub code-spec : {M : Type 1} → statement M
 code-spec =
     tie.close
@@ -126,6 +136,8 @@ code-spec =
     coded-requires-8
     enum-known-r-8
     coded-requires-9
+    enum-known-r-9
+    coded-requires-10
     returns
     returns-2
     returns-3
@@ -134,4 +146,5 @@ code-spec =
     returns-6
     returns-7
     returns-8
-    returns-9)
+    returns-9
+    returns-10)
