@@ -8,7 +8,8 @@ use std::path::PathBuf;
 const AFTER_HELP: &str = "\
 A path text has a vertex a line, three whole numbers: x y radius. Blank lines count for nothing,
 and neither does what follows a #. x and y are -268435456 to 268435456, a radius is 0 to 268435456,
-a path has at most 4096 vertices. Bytes that follow a sheet are passed over.
+a path has at most 4096 vertices. Bytes that follow a sheet are passed over. A file of the oldest
+chunks has 12 bytes a vertex: x, y and full width in millimetres, as little-endian 32-bit floats.
 
 Input comes from standard input, or from the file that is named. The result goes to standard
 output, or with -o to a file, which is written whole or not at all.
@@ -39,6 +40,10 @@ pub enum Command {
     Changed(Comparing),
     /// A sheet as a picture (SVG), or two, what differs in a second colour
     Picture(Showing),
+    /// The path of a file of the oldest chunks, as text
+    Import(Importing),
+    /// A path as a file of the oldest chunks
+    Export(Exporting),
     /// A hedge of nine hundred points, one gate post moved; writes hedge.svg here
     Demo,
     /// Completions of this command for a shell
@@ -109,6 +114,24 @@ pub struct Showing {
     pub sheet: Option<PathBuf>,
     /// The sheet after
     pub after: Option<PathBuf>,
+    #[command(flatten)]
+    pub destination: Destination,
+}
+
+/// What import takes.
+#[derive(Args)]
+pub struct Importing {
+    /// The file of the oldest chunks, if not on standard input
+    pub old: Option<PathBuf>,
+    #[command(flatten)]
+    pub destination: Destination,
+}
+
+/// What export takes.
+#[derive(Args)]
+pub struct Exporting {
+    /// The path text, if not on standard input
+    pub path: Option<PathBuf>,
     #[command(flatten)]
     pub destination: Destination,
 }

@@ -5,11 +5,13 @@
 
 use crate::failure::Failure;
 use crate::memory::{lengthen, zeros};
+use crate::oldest::{not_exported, not_imported};
 use crate::progress;
 use crate::sheet::Header;
 use sehmelir::Refusal;
 
-/// The most vertices that a path may have: what a read lends room for.
+/// The most vertices that a path may have: what a read, an import and an export
+/// lend room for.
 const MOST_VERTICES: usize = 4096;
 
 /// About as many bodies change where a vertex does.
@@ -69,6 +71,22 @@ pub fn replace(
         sheet.truncate(replaced?);
         Ok(sheet)
     })
+}
+
+/// The path of the oldest chunks' floats.
+pub fn import(floats: &[f32]) -> Result<Vec<[i32; 3]>, Failure> {
+    let path = with_room(MOST_VERTICES, |room: &mut [[i32; 3]]| {
+        sehmelir::import(floats, room.as_flattened_mut())
+    });
+    path.map_err(|failure| not_imported(failure, floats))
+}
+
+/// A path as the oldest chunks' floats.
+pub fn export(path: &[i32]) -> Result<Vec<[f32; 3]>, Failure> {
+    let vertices = with_room(MOST_VERTICES, |room: &mut [[f32; 3]]| {
+        sehmelir::export(path, room.as_flattened_mut())
+    });
+    vertices.map_err(|failure| not_exported(failure, path))
 }
 
 /// So many edges hold the boundary of most paths: sixteen a vertex at the

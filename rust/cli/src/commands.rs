@@ -1,11 +1,14 @@
 //! What each command does.
 
-use crate::arguments::{Arguments, Command, Comparing, Drawing, Reading, Replacing, Showing};
+use crate::arguments::{
+    Arguments, Command, Comparing, Drawing, Exporting, Importing, Reading, Replacing, Showing,
+};
 use crate::calls;
 use crate::changes::Changes;
 use crate::demo;
 use crate::destination::Destination;
 use crate::failure::Failure;
+use crate::oldest;
 use crate::path_text::{numbers, rows};
 use crate::picture;
 use crate::report;
@@ -25,6 +28,8 @@ pub fn run(command: Command) -> Result<(), Failure> {
         Command::Replace(asked) => replace(asked),
         Command::Changed(asked) => compare(asked),
         Command::Picture(asked) => show(asked),
+        Command::Import(asked) => import(asked),
+        Command::Export(asked) => export(asked),
         Command::Demo => demo::run(),
         Command::Completions { shell } => complete(shell),
     }
@@ -80,6 +85,20 @@ fn show(asked: Showing) -> Result<(), Failure> {
         }
     };
     asked.destination.write(picture.as_bytes())
+}
+
+/// The path of a file of the oldest chunks as text.
+fn import(asked: Importing) -> Result<(), Failure> {
+    let import = |bytes: Vec<u8>| calls::import(&oldest::floats(&bytes)?);
+    let path = Source::named(asked.old).take(import)?;
+    asked.destination.write(&rows(&path))
+}
+
+/// A path as a file of the oldest chunks.
+fn export(asked: Exporting) -> Result<(), Failure> {
+    let export = |text: Vec<u8>| calls::export(&numbers(&text)?);
+    let vertices = Source::named(asked.path).take(export)?;
+    asked.destination.write(&oldest::bytes(&vertices))
 }
 
 /// A sound sheet from a file or from standard input.

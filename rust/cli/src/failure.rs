@@ -1,6 +1,6 @@
 //! Why a command gives no result, in the words that go to standard error.
 
-use sehmelir::Refusal;
+use sehmelir::{Refusal, Untaken};
 use std::fmt::{self, Display, Formatter};
 use std::io;
 use std::path::{Path, PathBuf};
@@ -12,6 +12,12 @@ pub enum Failure {
     Words(&'static str),
     /// The line of this number is no vertex.
     Line(usize),
+    /// The file of the oldest chunks has so many bytes, no multiple of 12.
+    Uneven(usize),
+    /// The float at this place of the oldest chunks is not taken, and why.
+    Untaken(usize, Untaken),
+    /// The number at this place of a path cannot be written as a float: this.
+    Inexact(usize, i32),
     /// The library refused a call.
     Refused(Refusal),
     /// The sheets to be compared have so many vertices and so many others.
@@ -51,6 +57,19 @@ impl Display for Failure {
                 formatter,
                 "refused: line {number} is not a vertex: three whole numbers of 32 bits are due, x y radius"
             ),
+            Failure::Uneven(bytes) => write!(
+                formatter,
+                "refused: {bytes} bytes are not a multiple of 12: \
+                 a vertex of the oldest chunks is three 32-bit floats, x y and full width"
+            ),
+            Failure::Untaken(place, untaken) => {
+                let which = which(*place, "width");
+                write!(formatter, "refused with reply 13: {which}: {untaken}")
+            }
+            Failure::Inexact(place, number) => {
+                let (which, reason) = (which(*place, "radius"), inexact(*place, *number));
+                write!(formatter, "refused with reply 13: {which}: {reason}")
+            }
             Failure::Refused(refusal) => fmt_refusal(refusal, formatter),
             Failure::Unlike(first, second) => write!(
                 formatter,
@@ -75,6 +94,28 @@ impl Display for Failure {
     }
 }
 
+/// Which number of the oldest chunks, or of a path, is the first not taken.
+fn which(place: usize, last: &str) -> String {
+    let name = ["x", "y", last][place % 3];
+    let vertex = place / 3;
+    format!(
+        "a number is not taken; the first such is the {name} of vertex {vertex}, \
+         at place {place}, counted from 0"
+    )
+}
+
+/// Why a number of a path is not written as a float.
+fn inexact(place: usize, number: i32) -> String {
+    let (least, of) = match place % 3 {
+        2 => (0, "twice "),
+        _ => (-268435456, ""),
+    };
+    match (least..=268435456).contains(&number) {
+        true => format!("no 32-bit float is {of}{number}"),
+        false => format!("{number} is not {least} to 268435456"),
+    }
+}
+
 /// A refusal with its reply's number. The library's own words are shorter and
 /// name no number.
 fn fmt_refusal(refusal: &Refusal, formatter: &mut Formatter) -> fmt::Result {
@@ -83,7 +124,7 @@ fn fmt_refusal(refusal: &Refusal, formatter: &mut Formatter) -> fmt::Result {
     write!(formatter, "refused with reply {reply}: {meaning}")
 }
 
-/// What document 01 says of a refusal, and the number beside it.
+/// What the documents say of a refusal, and the number beside it.
 fn meaning(refusal: &Refusal) -> String {
     match refusal {
         Refusal::NotTriples(count) => {
@@ -110,6 +151,9 @@ fn meaning(refusal: &Refusal) -> String {
             "the index is not below the number of vertices; it is {index} \
              (vertices are counted from 0)"
         ),
+        Refusal::NotTaken(place) => {
+            format!("a number is not taken; the first such is at place {place}, counted from 0")
+        }
         // one that the library has and this command does not know yet
         other => other.to_string(),
     }

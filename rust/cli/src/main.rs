@@ -1,4 +1,5 @@
-//! `sehmelir`: paths kept as sheets, read, drawn, changed, compared and shown.
+//! `sehmelir`: paths kept as sheets, read, drawn, changed, compared and shown,
+//! and taken from and to the oldest chunks.
 //! What rests on a proof comes from the library, `rust/sehmelir`; what is here
 //! is text, files, pictures and words.
 
@@ -10,6 +11,7 @@ mod demo;
 mod destination;
 mod failure;
 mod memory;
+mod oldest;
 mod path_text;
 mod picture;
 mod progress;

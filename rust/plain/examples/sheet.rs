@@ -1,9 +1,10 @@
 //! What the repository's command does with sheets, in plain Rust, for its tests: standard input to standard output, and on a refusal the reply and its
 //! number to standard error.
 //!
-//! sheet keep GRADE | sheet draw GRADE | sheet read | sheet replace K X Y RADIUS
+//! sheet keep GRADE | sheet draw GRADE | sheet read | sheet replace K X Y RADIUS | sheet import | sheet export
 
 use plain::calls::{draw, keep, read, replace, Reply};
+use plain::oldest::{export, import};
 use std::io::{self, Read, Write};
 use std::process::ExitCode;
 
@@ -73,6 +74,16 @@ fn answer(words: &[&str], input: Vec<u8>) -> Option<Result<Vec<u8>, Reply>> {
             let radius = radius.parse().ok()?;
             lent(input, 1, |room| replace(room, index, x, y, radius))
         }
+        ["import"] => {
+            let float = |word: &[u8]| f32::from_le_bytes(word.try_into().unwrap());
+            let floats: Vec<f32> = input.chunks_exact(4).map(float).collect();
+            lent(vec![], 3, |room| import(&floats, room)).map(|path| rows(&path, 3))
+        }
+        ["export"] => {
+            let path = path(&input);
+            let floats = lent(vec![], 3, |room| export(&path, room));
+            floats.map(|floats| floats.into_iter().flat_map(f32::to_le_bytes).collect())
+        }
         _ => return None,
     })
 }
@@ -97,7 +108,7 @@ fn main() -> ExitCode {
         }
         None => {
             eprintln!(
-                "sheet keep GRADE | sheet draw GRADE | sheet read | sheet replace K X Y RADIUS"
+                "sheet keep GRADE | sheet draw GRADE | sheet read | sheet replace K X Y RADIUS | sheet import | sheet export"
             );
             ExitCode::FAILURE
         }

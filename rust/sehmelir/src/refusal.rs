@@ -56,6 +56,7 @@ impl Refusal {
             Refusal::Kind(_) => 7,
             Refusal::NotSound(_) => 8,
             Refusal::NoVertex(_) => 9,
+            Refusal::NotTaken(_) => 13,
         }
     }
 }
