@@ -9,8 +9,11 @@ use plain::oldest::{self, Reason};
 use sehmelir::{take_coordinate, take_width, Refusal, Untaken};
 use std::thread;
 
-/// How many generated cases each call is compared on.
-const CASES: usize = 20_000;
+/// How many generated cases each call is compared on: `CASES` in the
+/// environment, if they should be more than some thousands.
+fn cases() -> usize {
+    std::env::var("CASES").map_or(20_000, |count| count.parse().unwrap())
+}
 
 /// Most vertices of a generated path.
 const VERTICES: u64 = 6;
@@ -260,7 +263,7 @@ fn lent_numbers<T: Copy>(
 #[test]
 fn imports() {
     let (mut maker, mut tally, edges) = (Maker::new(11), Tally::default(), edges());
-    for _ in 0..CASES {
+    for _ in 0..cases() {
         let numbers = lent_numbers(&mut maker, |maker, width| float(maker, &edges, width));
         tally.count(import(&numbers, maker.room(numbers.len())));
     }
@@ -271,7 +274,7 @@ fn imports() {
 fn exports() {
     let (mut maker, mut tally) = (Maker::new(12), Tally::default());
     let edges: Vec<i32> = edges().iter().map(|&value| value as i32).collect();
-    for _ in 0..CASES {
+    for _ in 0..cases() {
         let path = lent_numbers(&mut maker, |maker, radius| {
             let near = maker.pick(&[-1, 0, 1]);
             match maker.chance(4) {
@@ -290,7 +293,7 @@ fn exports() {
 fn there_and_back() {
     let (mut maker, edges) = (Maker::new(13), edges());
     let mut taken = 0;
-    for _ in 0..CASES {
+    for _ in 0..cases() {
         let numbers = lent_numbers(&mut maker, |maker, width| float(maker, &edges, width));
         let mut path = vec![0; numbers.len()];
         if sehmelir::import(&numbers, &mut path).is_err() {
@@ -306,5 +309,5 @@ fn there_and_back() {
         assert_eq!(sehmelir::import(&back, &mut again), Ok(path.len() / 3));
         assert_eq!(again, path);
     }
-    assert!(taken > CASES / 4);
+    assert!(taken > cases() / 4);
 }
