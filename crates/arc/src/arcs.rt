@@ -1,18 +1,23 @@
 // An arc of any kind, counterclockwise about a centre.
 use crate::circle::circle;
-use crate::circle::swept;
 use folds::Pen;
+use folds::folding::fold;
+use leaps::turns::turns;
 use number::root::root;
 use plane::Point;
 use plane::direction::direction;
 use plane::direction::measured;
+use plane::rotation::rotated;
+use plane::vectors::cross;
 use plane::vectors::from_to;
 use plane::vectors::square;
 use turning::Sweep;
+use turning::Turning;
 use turning::edges::edge;
 use turning::kinds::empty;
 use turning::kinds::full;
 use turning::kinds::sweep;
+use turning::turn::stops;
 ghost use mathlib.Core.List.{_++_};
 ghost use Rattle.runs.specs.Runs.{Room};
 ghost use Rattle.plane.specs.Vectors.{fromTo};
@@ -61,6 +66,22 @@ pub fn arc(
     if full(w, d, e) {
         return ring(out, at, pen, c, p, q);
     }
+    // a join that bends by less than a step has no inner point, and needs no root
+    let t = pen.step;
+    let next = rotated(t, d);
+    if stops(cross(d, e), d, next, e) {
+        return edge(out, at, p, q);
+    }
     let radius = root(k.square) as i64;
-    swept(out, at, pen, c, radius, p, d, q, e)
+    let r = Turning {
+        step: t,
+        centre: c,
+        radius: radius,
+        to: q,
+        toward: e,
+    };
+    if pen.folds {
+        return fold(out, at, r, d, p);
+    }
+    turns(out, at, r, d, p)
 }

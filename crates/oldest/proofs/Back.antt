@@ -11,7 +11,7 @@ use mir.Syntax.{w32}
 use mir.Val.{SFits}
 use lib.Ieee.{Float, nan, inf, fin, binary32, ofInt, isNan}
 use borrow.Author.Tests.{le-ltb, ltb-false}
-use Rattle.oldest.specs.Floats.{isInfinite, hasFraction, sizeOf, wholeOf, plain}
+use Rattle.oldest.specs.Floats.{isInfinite, hasFraction, magnitudeOf, wholeOf, plainZero}
 use Rattle.oldest.specs.Taken.{wholeIn, coordinateOf, widthOf}
 use Rattle.plane.specs.Vectors.{sameNumber}
 use Rattle.turning.proofs.Rays.{same-self, same-is}
@@ -106,29 +106,29 @@ whole-is (OddWidth x) n h = absurd (let z : _≡_ {A = ℕ} 0 1 = cc in omega ar
 
 -- ---- zero for minus zero changes nothing that is asked
 
-plain-number : (x : Float) → wholeOf (plain x) ≡ wholeOf x
-unfolding plain wholeOf
+plain-number : (x : Float) → wholeOf (plainZero x) ≡ wholeOf x
+unfolding plainZero wholeOf
 plain-number nan = refl
 plain-number (inf s) = refl
 plain-number (fin true zero e) = ap (λ (n : ℕ). negℤ (pos n)) (sym (zero-part e))
 plain-number (fin false zero e) = ap pos (sym (zero-part e))
 plain-number (fin s (suc m) e) = refl
 
-plain-size : (x : Float) → sizeOf (plain x) ≡ sizeOf x
-plain-size x = sym (size-is (plain x)) ∙ ap natAbs (plain-number x) ∙ size-is x
+plain-size : (x : Float) → magnitudeOf (plainZero x) ≡ magnitudeOf x
+plain-size x = sym (size-is (plainZero x)) ∙ ap natAbs (plain-number x) ∙ size-is x
 
-plain-whole : {most : ℕ} (x : Float) → IsWhole most x → IsWhole most (plain x)
-unfolding plain isNan isInfinite hasFraction
+plain-whole : {most : ℕ} (x : Float) → IsWhole most x → IsWhole most (plainZero x)
+unfolding plainZero isNan isInfinite hasFraction
 plain-whole nan w = w
 plain-whole (inf s) w = w
 plain-whole (fin s (suc m) e) w = w
 plain-whole (fin s zero e) w = record { number = refl; finite = refl; whole = refl; within = rw (plain-size (fin s zero e)) (w .within) }
 
-plain-width : (x : Float) → IsWidth x → IsWidth (plain x)
+plain-width : (x : Float) → IsWidth x → IsWidth (plainZero x)
 plain-width x w = record { is-whole = plain-whole x (w .is-whole); positive = rw (plain-number x) (w .positive); even = rw (plain-size x) (w .even) }
 
 -- the float nearest to a whole float's number
-nearest-to : {most : ℕ} (x : Float) → Fits32 x → most ≤ 536870912 → IsWhole most x → ofInt binary32 (wholeOf x) ≡ plain x
+nearest-to : {most : ℕ} (x : Float) → Fits32 x → most ≤ 536870912 → IsWhole most x → ofInt binary32 (wholeOf x) ≡ plainZero x
 unfolding isNan isInfinite
 nearest-to nan f k w = absurd (true≢false (w .number))
 nearest-to (inf s) f k w = absurd (true≢false (w .finite))
@@ -137,26 +137,26 @@ nearest-to (fin s m e) f k w = nearest-plain s m e f (w .whole) (le-trans (w .wi
 -- ---- there and back, one number
 
 module _ (x : Float) (f : Fits32 x) where
-  pub coordinate-there : (n : ℤ) → coordinateOf x ≡ Whole n → coordinateBackOf n ≡ Exact (plain x)
+  pub coordinate-there : (n : ℤ) → coordinateOf x ≡ Whole n → coordinateBackOf n ≡ Exact (plainZero x)
   unfolding coordinateBackOf
   coordinate-there n h =
       let w = coordinate-says x n h in
-      let p : ofInt binary32 n ≡ plain x = ap (ofInt binary32) (sym (w .1)) ∙ nearest-to x f (omega arith) (w .0) in
-      let t : coordinateOf (plain x) ≡ Whole n = coordinate-taken (plain x) (plain-whole x (w .0)) ∙ ap Whole (plain-number x ∙ w .1) in
-      rw p (sym (same-back n (plain x) (coordinateOf (plain x)) t refl))
+      let p : ofInt binary32 n ≡ plainZero x = ap (ofInt binary32) (sym (w .1)) ∙ nearest-to x f (omega arith) (w .0) in
+      let t : coordinateOf (plainZero x) ≡ Whole n = coordinate-taken (plainZero x) (plain-whole x (w .0)) ∙ ap Whole (plain-number x ∙ w .1) in
+      rw p (sym (same-back n (plainZero x) (coordinateOf (plainZero x)) t refl))
 
-  pub width-there : (r : ℤ) → widthOf x ≡ Whole r → widthBackOf r ≡ Exact (plain x)
+  pub width-there : (r : ℤ) → widthOf x ≡ Whole r → widthBackOf r ≡ Exact (plainZero x)
   unfolding widthBackOf
   width-there r h =
       let w = width-says x r h in
       let d : pos 2 *ℤ r ≡ wholeOf x =
-      ap (λ (z : ℤ). pos 2 *ℤ z) (sym (w .1)) ∙ pos-*ℤ-pos 2 (sizeOf x / 2) ∙ ap pos (doubled (w .0 .even)) ∙ sym (no-sign (wholeOf x) (w .0 .positive) ∙ ap pos (size-is x)) in
-      let p : ofInt binary32 (pos 2 *ℤ r) ≡ plain x = ap (ofInt binary32) d ∙ nearest-to x f (omega arith) (w .0 .is-whole) in
-      let t : widthOf (plain x) ≡ Whole r = width-taken (plain x) (plain-width x (w .0)) ∙ ap (λ (n : ℕ). Whole (pos (n / 2))) (plain-size x) ∙ ap Whole (w .1) in
-      sym (radius-inside r (rw (← w .1) (le-ltb (sizeOf x / 2) 0 (omega arith))) (rw (← w .1) (le-ltb 268435456 (sizeOf x / 2) (omega (arith, w .0 .is-whole .within)))))
-      ∙ rw p (sym (same-back r (plain x) (widthOf (plain x)) t refl))
+      ap (λ (z : ℤ). pos 2 *ℤ z) (sym (w .1)) ∙ pos-*ℤ-pos 2 (magnitudeOf x / 2) ∙ ap pos (doubled (w .0 .even)) ∙ sym (no-sign (wholeOf x) (w .0 .positive) ∙ ap pos (size-is x)) in
+      let p : ofInt binary32 (pos 2 *ℤ r) ≡ plainZero x = ap (ofInt binary32) d ∙ nearest-to x f (omega arith) (w .0 .is-whole) in
+      let t : widthOf (plainZero x) ≡ Whole r = width-taken (plainZero x) (plain-width x (w .0)) ∙ ap (λ (n : ℕ). Whole (pos (n / 2))) (plain-size x) ∙ ap Whole (w .1) in
+      sym (radius-inside r (rw (← w .1) (le-ltb (magnitudeOf x / 2) 0 (omega arith))) (rw (← w .1) (le-ltb 268435456 (magnitudeOf x / 2) (omega (arith, w .0 .is-whole .within)))))
+      ∙ rw p (sym (same-back r (plainZero x) (widthOf (plainZero x)) t refl))
     where
-      doubled : sizeOf x % 2 ≡ 0 → 2 * (sizeOf x / 2) ≡ sizeOf x
+      doubled : magnitudeOf x % 2 ≡ 0 → 2 * (magnitudeOf x / 2) ≡ magnitudeOf x
       doubled e = omega arith
 
 pub coordinate-back : (n : ℤ) (x : Float) → coordinateBackOf n ≡ Exact x → coordinateOf x ≡ Whole n

@@ -10,7 +10,7 @@ use lib.IntN.{ℤ, pos}
 use lib.ListN.{getD}
 use lib.Ieee.{Float}
 use Rattle.replies.specs.Replies.{firstRow}
-use Rattle.oldest.specs.Floats.{sizeOf, wholeOf}
+use Rattle.oldest.specs.Floats.{magnitudeOf, wholeOf}
 use Rattle.oldest.specs.Taken.{reasons, widthReasons, wholeWithin, coordinateOf, widthOf, reasonOf, refusedIn}
 use Rattle.oldest.specs.Theorems.{CoordinateTaken, WidthTaken, FirstReason, tests, CoordinateReason, WidthReason}
 use Rattle.oldest.specs.declared.Taken.{Taken}
@@ -89,4 +89,4 @@ coordinate-reason x = first-reason (from-rows 0 x (wholeOf x) (reasons 268435456
 
 pub width-reason : WidthReason
 unfolding widthOf reasons widthReasons reasonOf refusedIn
-width-reason x = first-reason (from-rows 0 x (pos (sizeOf x / 2)) (reasons 536870912 x ++ widthReasons x) (refl, refl, (refl, refl, (refl, refl, (refl, refl, (refl, refl, (refl, refl, tt)))))))
+width-reason x = first-reason (from-rows 0 x (pos (magnitudeOf x / 2)) (reasons 536870912 x ++ widthReasons x) (refl, refl, (refl, refl, (refl, refl, (refl, refl, (refl, refl, (refl, refl, tt)))))))

@@ -13,7 +13,7 @@ use borrow.Author.Tests.{lt-ltb, le-ltb, ltb-false, eq-eqb, ne-eqb, eqb-true}
 use Rattle.runs.proofs.Written.{over-whole}
 use Rattle.replies.specs.Replies.{Reply, firstRow, triplesRow, countRow, roomRow, written}
 use Rattle.oldest.specs.Calls.{inThrees, takenOf, untakenRow, passReply, passOut}
-use Rattle.oldest.specs.Walks.{Walks}
+use Rattle.oldest.specs.Converts.{Converts}
 use Rattle.oldest.proofs.Walking.{taken-most, threes-length}
 
 -- a reply to the numbers lent, and the room as it was and as it is
@@ -35,7 +35,7 @@ module _ {A B : Type 0} (f g : A → Option B) (l : List A) (out : List B) where
     unfolding passReply triplesRow countRow firstRow
     too-many h = refused refl (rw (eq-eqb (length l % 3) 0 h₁, firstRow, lt-ltb 4096 (length l / 3) h, firstRow))
 
-    module _ (h₂ : length l / 3 ≤ 4096) {r : ℕ} {seen seen₁ : List B} (w : Walks (inThrees f g l) 0 seen r seen₁) where
+    module _ (h₂ : length l / 3 ≤ 4096) {r : ℕ} {seen seen₁ : List B} (w : Converts (inThrees f g l) 0 seen r seen₁) where
       size : length (inThrees f g l) ≡ length l
       size = threes-length f g l h₁
 
@@ -73,7 +73,7 @@ module _ {A B : Type 0} {f g : A → Option B} {l : List A} where
   accepted-out out a = rw (← accepted-reply a)
 
   -- what the walk over the room lent has made
-  pub done : {out out₁ : List B} {r : ℕ} → length l % 3 ≡ 0 → length l / 3 ≤ 4096 → Walks (inThrees f g l) 0 out r out₁ → length l ≤ r → length l ≤ length out → Passes f g l out (0, length l / 3) out₁
+  pub done : {out out₁ : List B} {r : ℕ} → length l % 3 ≡ 0 → length l / 3 ≤ 4096 → Converts (inThrees f g l) 0 out r out₁ → length l ≤ r → length l ≤ length out → Passes f g l out (0, length l / 3) out₁
   done {out} h₁ h₂ w h₃ h₄ =
       let size = threes-length f g l h₁ in
       let all : length (takenOf (inThrees f g l)) ≡ length l = omega (arith, w .place, taken-most (inThrees f g l), size) in

@@ -18,7 +18,7 @@ use denote.Enum.Declared.{tagOf}
 use borrow.Author.Tests.{lt-ltb, le-ltb, ltb-true, ltb-false, eq-eqb, ne-eqb, eqb-true}
 use Rattle.replies.specs.Replies.{firstRow}
 use Rattle.replies.proofs.Rows.{rows-append}
-use Rattle.oldest.specs.Floats.{isInfinite, hasFraction, sizeOf, wholeOf}
+use Rattle.oldest.specs.Floats.{isInfinite, hasFraction, magnitudeOf, wholeOf}
 use Rattle.oldest.specs.Taken.{reasons, widthReasons, wholeWithin, coordinateOf, widthOf, wholeIn}
 use Rattle.oldest.specs.Theorems.{IsWhole, IsWidth}
 use Rattle.oldest.specs.declared.Taken.{Taken}
@@ -52,13 +52,13 @@ module _ (most : ℕ) (x : Float) (last : Taken) where
   unfolding reasons firstRow
   first-fraction a b c = rw (a, firstRow, b, firstRow, c, firstRow)
 
-  pub first-large : isNan x ≡ false → isInfinite x ≡ false → hasFraction x ≡ false → most < sizeOf x → TooLarge x ≡ firstRow (reasons most x) last
+  pub first-large : isNan x ≡ false → isInfinite x ≡ false → hasFraction x ≡ false → most < magnitudeOf x → TooLarge x ≡ firstRow (reasons most x) last
   unfolding reasons firstRow
-  first-large a b c d = rw (a, firstRow, b, firstRow, c, firstRow, lt-ltb most (sizeOf x) d, firstRow)
+  first-large a b c d = rw (a, firstRow, b, firstRow, c, firstRow, lt-ltb most (magnitudeOf x) d, firstRow)
 
   pub no-reason : IsWhole most x → last ≡ firstRow (reasons most x) last
   unfolding reasons firstRow
-  no-reason w = rw (w .number, firstRow, w .finite, firstRow, w .whole, firstRow, le-ltb most (sizeOf x) (w .within), firstRow)
+  no-reason w = rw (w .number, firstRow, w .finite, firstRow, w .whole, firstRow, le-ltb most (magnitudeOf x) (w .within), firstRow)
 
 -- one reason applies, whatever is asked after it, and under a smaller limit too
 record Refuses (most : ℕ) (x : Float) : Type 0 where
@@ -68,15 +68,15 @@ record Refuses (most : ℕ) (x : Float) : Type 0 where
 
 either : (most : ℕ) (x : Float) → IsWhole most x ⊎ Refuses most x
 unfolding wholeIn
-either most x = go (isNan x) (isInfinite x) (hasFraction x) (ltb most (sizeOf x)) refl refl refl refl
+either most x = go (isNan x) (isInfinite x) (hasFraction x) (ltb most (magnitudeOf x)) refl refl refl refl
   where
-    go : (a b c d : Bool) → isNan x ≡ a → isInfinite x ≡ b → hasFraction x ≡ c → ltb most (sizeOf x) ≡ d → IsWhole most x ⊎ Refuses most x
+    go : (a b c d : Bool) → isNan x ≡ a → isInfinite x ≡ b → hasFraction x ≡ c → ltb most (magnitudeOf x) ≡ d → IsWhole most x ⊎ Refuses most x
     go true b c d ea eb ec ed = inr (record { answer = NotANumber x; no-whole = refl; always = λ less k last. sym (first-nan less x last ea) })
     go false true c d ea eb ec ed = inr (record { answer = Infinite x; no-whole = refl; always = λ less k last. sym (first-infinite less x last ea eb) })
     go false false true d ea eb ec ed = inr (record { answer = Fraction x; no-whole = refl; always = λ less k last. sym (first-fraction less x last ea eb ec) })
     go false false false true ea eb ec ed =
-        inr (record { answer = TooLarge x; no-whole = refl; always = λ less k last. sym (first-large less x last ea eb ec (lt-of-le-of-lt k (ltb-true most (sizeOf x) ed))) })
-    go false false false false ea eb ec ed = inl (record { number = ea; finite = eb; whole = ec; within = ltb-false most (sizeOf x) ed })
+        inr (record { answer = TooLarge x; no-whole = refl; always = λ less k last. sym (first-large less x last ea eb ec (lt-of-le-of-lt k (ltb-true most (magnitudeOf x) ed))) })
+    go false false false false ea eb ec ed = inl (record { number = ea; finite = eb; whole = ec; within = ltb-false most (magnitudeOf x) ed })
 
 some-none : (t : Taken) (n : ℤ) → t ≡ Whole n → wholeIn t ≡ none → ⊥
 unfolding wholeIn
@@ -101,8 +101,8 @@ stands less most x last k h = go (either most x)
 
 -- ---- the number and its size
 
-pub size-is : (x : Float) → natAbs (wholeOf x) ≡ sizeOf x
-unfolding wholeOf sizeOf
+pub size-is : (x : Float) → natAbs (wholeOf x) ≡ magnitudeOf x
+unfolding wholeOf magnitudeOf
 size-is nan = refl
 size-is (inf s) = refl
 size-is (fin false m e) = refl
@@ -139,25 +139,25 @@ module _ (x : Float) where
   unfolding coordinateOf wholeWithin
   coordinate-says n h = let p = passed 268435456 x n (Whole (wholeOf x)) h in (p .0, let q : Whole (wholeOf x) ≡ Whole n = p .1 in cc)
 
-  width-rows : IsWhole 536870912 x → widthOf x ≡ firstRow (widthReasons x) (Whole (pos (sizeOf x / 2)))
+  width-rows : IsWhole 536870912 x → widthOf x ≡ firstRow (widthReasons x) (Whole (pos (magnitudeOf x / 2)))
   unfolding widthOf
-  width-rows w = rows-append (reasons 536870912 x) (widthReasons x) (Whole (pos (sizeOf x / 2))) ∙ sym (no-reason 536870912 x (firstRow (widthReasons x) (Whole (pos (sizeOf x / 2)))) w)
+  width-rows w = rows-append (reasons 536870912 x) (widthReasons x) (Whole (pos (magnitudeOf x / 2))) ∙ sym (no-reason 536870912 x (firstRow (widthReasons x) (Whole (pos (magnitudeOf x / 2)))) w)
 
-  pub width-taken : IsWidth x → widthOf x ≡ Whole (pos (sizeOf x / 2))
+  pub width-taken : IsWidth x → widthOf x ≡ Whole (pos (magnitudeOf x / 2))
   unfolding widthReasons firstRow
-  width-taken w = width-rows (w .is-whole) ∙ rw (w .positive, firstRow, eq-eqb (sizeOf x % 2) 0 (w .even), firstRow)
+  width-taken w = width-rows (w .is-whole) ∙ rw (w .positive, firstRow, eq-eqb (magnitudeOf x % 2) 0 (w .even), firstRow)
 
-  pub width-says : (r : ℤ) → widthOf x ≡ Whole r → IsWidth x × (pos (sizeOf x / 2) ≡ r)
+  pub width-says : (r : ℤ) → widthOf x ≡ Whole r → IsWidth x × (pos (magnitudeOf x / 2) ≡ r)
   unfolding widthOf widthReasons firstRow
   width-says r h =
-      let p = passed 536870912 x r _ (sym (rows-append (reasons 536870912 x) (widthReasons x) (Whole (pos (sizeOf x / 2)))) ∙ h) in
-      go (p .0) (ltZ (wholeOf x) (pos 0)) (eqb (sizeOf x % 2) 0) refl refl (p .1)
+      let p = passed 536870912 x r _ (sym (rows-append (reasons 536870912 x) (widthReasons x) (Whole (pos (magnitudeOf x / 2)))) ∙ h) in
+      go (p .0) (ltZ (wholeOf x) (pos 0)) (eqb (magnitudeOf x % 2) 0) refl refl (p .1)
     where
-      go : IsWhole 536870912 x → (a b : Bool) → ltZ (wholeOf x) (pos 0) ≡ a → eqb (sizeOf x % 2) 0 ≡ b
-          → firstRow ((a, NegativeWidth x) ∷ (not b, OddWidth x) ∷ []) (Whole (pos (sizeOf x / 2))) ≡ Whole r → IsWidth x × (pos (sizeOf x / 2) ≡ r)
+      go : IsWhole 536870912 x → (a b : Bool) → ltZ (wholeOf x) (pos 0) ≡ a → eqb (magnitudeOf x % 2) 0 ≡ b
+          → firstRow ((a, NegativeWidth x) ∷ (not b, OddWidth x) ∷ []) (Whole (pos (magnitudeOf x / 2))) ≡ Whole r → IsWidth x × (pos (magnitudeOf x / 2) ≡ r)
       go w true b ea eb k = absurd (let z : _≡_ {A = ℕ} 0 1 = cc in omega arith)
       go w false false ea eb k = absurd (let z : _≡_ {A = ℕ} 0 1 = cc in omega arith)
-      go w false true ea eb k = (record { is-whole = w; positive = ea; even = eqb-true (sizeOf x % 2) 0 eb }, let q : Whole (pos (sizeOf x / 2)) ≡ Whole r = k in cc)
+      go w false true ea eb k = (record { is-whole = w; positive = ea; even = eqb-true (magnitudeOf x % 2) 0 eb }, let q : Whole (pos (magnitudeOf x / 2)) ≡ Whole r = k in cc)
 
 -- ---- from the whole number that the code has found
 
@@ -169,14 +169,14 @@ module _ (x : Float) (h : wholeIn (wholeWithin 536870912 x) ≡ none) where
 
   pub width-none : wholeWithin 536870912 x ≡ widthOf x
   unfolding widthOf
-  width-none = stands 536870912 536870912 x (firstRow (widthReasons x) (Whole (pos (sizeOf x / 2)))) (omega arith) h ∙ sym (rows-append (reasons 536870912 x) (widthReasons x) (Whole (pos (sizeOf x / 2))))
+  width-none = stands 536870912 536870912 x (firstRow (widthReasons x) (Whole (pos (magnitudeOf x / 2)))) (omega arith) h ∙ sym (rows-append (reasons 536870912 x) (widthReasons x) (Whole (pos (magnitudeOf x / 2))))
 
 module _ (x : Float) (n : ℤ) (found : wholeWithin 536870912 x ≡ Whole n) where
   is-whole : IsWhole 536870912 x × (wholeOf x ≡ n)
   unfolding wholeWithin
   is-whole = let p = passed 536870912 x n (Whole (wholeOf x)) found in (p .0, let q : Whole (wholeOf x) ≡ Whole n = p .1 in cc)
 
-  size-of : natAbs n ≡ sizeOf x
+  size-of : natAbs n ≡ magnitudeOf x
   size-of = ap natAbs (sym (is-whole .1)) ∙ size-is x
 
   too-large : 268435456 < natAbs n → TooLarge x ≡ coordinateOf x
@@ -199,14 +199,14 @@ module _ (x : Float) (n : ℤ) (found : wholeWithin 536870912 x ≡ Whole n) whe
   width-negative l = sym (width-rows x (is-whole .0) ∙ rw (is-whole .1, firstRow, l, firstRow))
 
   module _ (positive : ltZ n (pos 0) ≡ false) where
-    as-size : n ≡ pos (sizeOf x)
+    as-size : n ≡ pos (magnitudeOf x)
     as-size = no-sign n positive ∙ ap pos size-of
 
     pub width-odd : (ofZ w32 (remZ n (pos 2)) ≡ 0 → ⊥) → OddWidth x ≡ widthOf x
     unfolding widthReasons firstRow
     width-odd o =
-        let d : sizeOf x % 2 ≡ 0 → ⊥ = rw as-size at o in
-        sym (width-rows x (is-whole .0) ∙ rw (is-whole .1, firstRow, positive, firstRow, ne-eqb (sizeOf x % 2) 0 d, firstRow))
+        let d : magnitudeOf x % 2 ≡ 0 → ⊥ = rw as-size at o in
+        sym (width-rows x (is-whole .0) ∙ rw (is-whole .1, firstRow, positive, firstRow, ne-eqb (magnitudeOf x % 2) 0 d, firstRow))
 
     pub width-even : ofZ w32 (remZ n (pos 2)) ≡ 0 → Whole (quotZ n (pos 2)) ≡ widthOf x
     width-even o =

@@ -17,10 +17,10 @@ hasFraction (inf s) = false
 hasFraction (fin s m e) = not (eqb (m * up e % down e) 0)
 
 -- its size, without a fraction
-unfoldable pub sizeOf : Float → ℕ
-sizeOf nan = 0
-sizeOf (inf s) = 0
-sizeOf (fin s m e) = m * up e / down e
+unfoldable pub magnitudeOf : Float → ℕ
+magnitudeOf nan = 0
+magnitudeOf (inf s) = 0
+magnitudeOf (fin s m e) = m * up e / down e
 
 -- its number, without a fraction; minus zero counts as zero
 unfoldable pub wholeOf : Float → ℤ
@@ -30,8 +30,8 @@ wholeOf (fin true m e) = negℤ (pos (m * up e / down e))
 wholeOf (fin false m e) = pos (m * up e / down e)
 
 -- the same float, but zero for minus zero
-unfoldable pub plain : Float → Float
-plain nan = nan
-plain (inf s) = inf s
-plain (fin s zero e) = fin false 0 (pos 0)
-plain (fin s (suc m) e) = fin s (suc m) e
+unfoldable pub plainZero : Float → Float
+plainZero nan = nan
+plainZero (inf s) = inf s
+plainZero (fin s zero e) = fin false 0 (pos 0)
+plainZero (fin s (suc m) e) = fin s (suc m) e

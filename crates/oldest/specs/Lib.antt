@@ -4,5 +4,5 @@ pub mod Taken
 pub mod Written
 pub mod Calls
 pub mod Answers
-pub mod Walks
+pub mod Converts
 pub mod Theorems

@@ -8,7 +8,7 @@ use lib.IntN.{ℤ, pos}
 use lib.Signed.{ltZ}
 use lib.Ieee.{Float, isNan}
 use Rattle.replies.specs.Replies.{firstRow}
-use Rattle.oldest.specs.Floats.{isInfinite, hasFraction, sizeOf, wholeOf}
+use Rattle.oldest.specs.Floats.{isInfinite, hasFraction, magnitudeOf, wholeOf}
 use Rattle.oldest.specs.declared.OldVertex.{OldVertex}
 use Rattle.oldest.specs.declared.Taken.{Taken}
 use Rattle.oldest.specs.declared.Taken.the-variants.{Whole, NotANumber, Infinite, Fraction, TooLarge, NegativeWidth, OddWidth}
@@ -17,11 +17,11 @@ use Rattle.oldest.specs.declared.VertexTaken.the-variants.{Vertex, Not}
 
 -- the reasons in order: not a number, infinite, has a fraction, too large in size
 unfoldable pub reasons : ℕ → Float → List (Bool × Taken)
-reasons most x = (isNan x, NotANumber x) ∷ (isInfinite x, Infinite x) ∷ (hasFraction x, Fraction x) ∷ (ltb most (sizeOf x), TooLarge x) ∷ []
+reasons most x = (isNan x, NotANumber x) ∷ (isInfinite x, Infinite x) ∷ (hasFraction x, Fraction x) ∷ (ltb most (magnitudeOf x), TooLarge x) ∷ []
 
 -- then, of a width: negative width, odd width
 unfoldable pub widthReasons : Float → List (Bool × Taken)
-widthReasons x = (ltZ (wholeOf x) (pos 0), NegativeWidth x) ∷ (not (eqb (sizeOf x % 2) 0), OddWidth x) ∷ []
+widthReasons x = (ltZ (wholeOf x) (pos 0), NegativeWidth x) ∷ (not (eqb (magnitudeOf x % 2) 0), OddWidth x) ∷ []
 
 -- a whole number of at most so much in size
 unfoldable pub wholeWithin : ℕ → Float → Taken
@@ -33,7 +33,7 @@ coordinateOf x = wholeWithin 268435456 x
 
 -- A width must be an even whole number from 0 to 536,870,912, and the radius is half of it.
 unfoldable pub widthOf : Float → Taken
-widthOf x = firstRow (reasons 536870912 x ++ widthReasons x) (Whole (pos (sizeOf x / 2)))
+widthOf x = firstRow (reasons 536870912 x ++ widthReasons x) (Whole (pos (magnitudeOf x / 2)))
 
 -- the whole number, where one is answered
 unfoldable pub wholeIn : Taken → Option ℤ

@@ -9,7 +9,7 @@ use lib.IntN.{ℤ, pos}
 use lib.Signed.{ltZ}
 use lib.ListN.{length, getD, take, drop}
 use lib.Ieee.{Float, binary32, fits, isNan}
-use Rattle.oldest.specs.Floats.{isInfinite, hasFraction, sizeOf, wholeOf, plain}
+use Rattle.oldest.specs.Floats.{isInfinite, hasFraction, magnitudeOf, wholeOf, plainZero}
 use Rattle.oldest.specs.Taken.{reasons, widthReasons, coordinateOf, widthOf, reasonOf, refusedIn}
 use Rattle.oldest.specs.Written.{coordinateBackOf, widthBackOf}
 use Rattle.oldest.specs.Calls.{importReply, importOut, exportReply, exportOut}
@@ -27,13 +27,13 @@ pub record IsWhole (most : ℕ) (x : Float) : Type 0 where
   pub number : isNan x ≡ false
   pub finite : isInfinite x ≡ false
   pub whole : hasFraction x ≡ false
-  pub within : sizeOf x ≤ most
+  pub within : magnitudeOf x ≤ most
 
 -- a float that is the width of a stroke
 pub record IsWidth (x : Float) : Type 0 where
   pub is-whole : IsWhole 536870912 x
   pub positive : ltZ (wholeOf x) (pos 0) ≡ false
-  pub even : sizeOf x % 2 ≡ 0
+  pub even : magnitudeOf x % 2 ≡ 0
 
 -- A coordinate is taken exactly if it is a whole number within the limits, and as that number.
 abbrev pub CoordinateTaken : Type 0
@@ -41,7 +41,7 @@ CoordinateTaken = (x : Float) → (IsWhole 268435456 x → coordinateOf x ≡ Wh
 
 -- A width is taken exactly if it is an even whole number from 0 to 536,870,912, and as half of it.
 abbrev pub WidthTaken : Type 0
-WidthTaken = (x : Float) → (IsWidth x → widthOf x ≡ Whole (pos (sizeOf x / 2))) × ((r : ℤ) → widthOf x ≡ Whole r → IsWidth x × (pos (sizeOf x / 2) ≡ r))
+WidthTaken = (x : Float) → (IsWidth x → widthOf x ≡ Whole (pos (magnitudeOf x / 2))) × ((r : ℤ) → widthOf x ≡ Whole r → IsWidth x × (pos (magnitudeOf x / 2) ≡ r))
 
 -- An answer t to the float x, after tests in order: taken if no test holds; else x itself, with the number, from 1, of the first that does.
 pub record FirstReason (tests : List Bool) (x : Float) (t : Taken) : Type 0 where
@@ -65,10 +65,10 @@ Fits32 x = fits binary32 x ≡ true
 
 -- A number is written as a float exactly if some float is taken as it, and as that float, minus zero apart; what is written is taken back.
 abbrev pub CoordinateWritten : Type 0
-CoordinateWritten = (n : ℤ) (x : Float) → (Fits32 x → coordinateOf x ≡ Whole n → coordinateBackOf n ≡ Exact (plain x)) × (coordinateBackOf n ≡ Exact x → coordinateOf x ≡ Whole n)
+CoordinateWritten = (n : ℤ) (x : Float) → (Fits32 x → coordinateOf x ≡ Whole n → coordinateBackOf n ≡ Exact (plainZero x)) × (coordinateBackOf n ≡ Exact x → coordinateOf x ≡ Whole n)
 
 abbrev pub WidthWritten : Type 0
-WidthWritten = (r : ℤ) (x : Float) → (Fits32 x → widthOf x ≡ Whole r → widthBackOf r ≡ Exact (plain x)) × (widthBackOf r ≡ Exact x → widthOf x ≡ Whole r)
+WidthWritten = (r : ℤ) (x : Float) → (Fits32 x → widthOf x ≡ Whole r → widthBackOf r ≡ Exact (plainZero x)) × (widthBackOf r ≡ Exact x → widthOf x ≡ Whole r)
 
 -- ---- the calls
 
@@ -87,7 +87,7 @@ Every P (x ∷ l) = P x × Every P l
 abbrev pub ImportExport : Type 0
 ImportExport = (floats : List Float) (out : List ℤ) (room : List Float) → Every Fits32 floats → importReply floats (length out) .0 ≡ 0 → length floats ≤ length room
     → (exportReply (take (length floats) (importOut floats out)) (length room) ≡ (0, length floats / 3))
-    × (exportOut (take (length floats) (importOut floats out)) room ≡ map plain floats ++ drop (length floats) room)
+    × (exportOut (take (length floats) (importOut floats out)) room ≡ map plainZero floats ++ drop (length floats) room)
 
 -- What is exported and imported again has the same numbers.
 abbrev pub ExportImport : Type 0

@@ -11,7 +11,7 @@ ghost use lib.ListN.{length, take, drop};
 ghost use Rattle.runs.specs.Runs.{over, put};
 ghost use Rattle.oldest.specs.Calls.{inThrees, coordinateOut, widthOut};
 ghost use Rattle.oldest.specs.Answers.{Exports};
-ghost use Rattle.oldest.specs.Walks.{Walks};
+ghost use Rattle.oldest.specs.Converts.{Converts};
 
 // A float where there is room for it.
 fn put_float(out: &mut [f32], at: usize, x: f32)
@@ -35,7 +35,7 @@ fn put_old(out: &mut [f32], at: usize, x: f32, y: f32, width: f32)
 // The vertex at a place: the place after it, or that of its first number that no float is.
 fn export_vertex(numbers: &[i32], at: usize, out: &mut [f32]) -> usize
     requires { ⌜ (at + 3 ≤ length (now numbers)) × (length (now numbers) ≤ 12288) ⌝ }
-    ensures { λ r. ⌜ Walks (inThrees coordinateOut widthOut (take 3 (drop at (now (numbers .entry))))) at (now (out .entry)) r (now (out .exit)) ⌝ }
+    ensures { λ r. ⌜ Converts (inThrees coordinateOut widthOut (take 3 (drop at (now (numbers .entry))))) at (now (out .entry)) r (now (out .exit)) ⌝ }
 {
     let wx = coordinate_back(numbers[at]);
     let Written::Exact(x) = wx else {
@@ -56,7 +56,7 @@ fn export_vertex(numbers: &[i32], at: usize, out: &mut [f32]) -> usize
 // Vertex after vertex, up to the first number that no float is: its place, or how many numbers there are.
 fn export_all(numbers: &[i32], out: &mut [f32]) -> usize
     requires { ⌜ (length (now numbers) % 3 ≡ 0) × (length (now numbers) ≤ 12288) ⌝ }
-    ensures { λ r. ⌜ Walks (inThrees coordinateOut widthOut (now (numbers .entry))) 0 (now (out .entry)) r (now (out .exit)) ⌝ }
+    ensures { λ r. ⌜ Converts (inThrees coordinateOut widthOut (now (numbers .entry))) 0 (now (out .entry)) r (now (out .exit)) ⌝ }
 {
     let mut at: usize = 0;
     while at < numbers.len() {

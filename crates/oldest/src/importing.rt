@@ -12,7 +12,7 @@ ghost use lib.ListN.{length, take, drop};
 ghost use Rattle.runs.specs.Runs.{over, put as putOf};
 ghost use Rattle.oldest.specs.Calls.{inThrees, coordinateIn, radiusIn};
 ghost use Rattle.oldest.specs.Answers.{Imports};
-ghost use Rattle.oldest.specs.Walks.{Walks};
+ghost use Rattle.oldest.specs.Converts.{Converts};
 
 // A vertex's three numbers.
 fn put_vertex(out: &mut [i32], at: usize, x: i32, y: i32, radius: i32)
@@ -27,7 +27,7 @@ fn put_vertex(out: &mut [i32], at: usize, x: i32, y: i32, radius: i32)
 // The vertex at a place: the place after it, or that of its first number not taken.
 fn import_vertex(floats: &[f32], at: usize, out: &mut [i32]) -> usize
     requires { ⌜ (at + 3 ≤ length (now floats)) × (length (now floats) ≤ 12288) ⌝ }
-    ensures { λ r. ⌜ Walks (inThrees coordinateIn radiusIn (take 3 (drop at (now (floats .entry))))) at (now (out .entry)) r (now (out .exit)) ⌝ }
+    ensures { λ r. ⌜ Converts (inThrees coordinateIn radiusIn (take 3 (drop at (now (floats .entry))))) at (now (out .entry)) r (now (out .exit)) ⌝ }
 {
     let v = OldVertex {
         x: floats[at],
@@ -48,7 +48,7 @@ fn import_vertex(floats: &[f32], at: usize, out: &mut [i32]) -> usize
 // walk over no room only looks.
 fn import_all(floats: &[f32], out: &mut [i32]) -> usize
     requires { ⌜ (length (now floats) % 3 ≡ 0) × (length (now floats) ≤ 12288) ⌝ }
-    ensures { λ r. ⌜ Walks (inThrees coordinateIn radiusIn (now (floats .entry))) 0 (now (out .entry)) r (now (out .exit)) ⌝ }
+    ensures { λ r. ⌜ Converts (inThrees coordinateIn radiusIn (now (floats .entry))) 0 (now (out .entry)) r (now (out .exit)) ⌝ }
 {
     let mut at: usize = 0;
     while at < floats.len() {
