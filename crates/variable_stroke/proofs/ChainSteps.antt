@@ -56,6 +56,9 @@ module _ (t : Vector) (c : Chain) (k : Cap) where
   unfolding finishOf finishLast
   finish-held e = rw e
 
+  pub finish-by : {j : Cap} → k ≡ j → finishOf t c k ≡ finishOf t c j
+  finish-by e = rw e
+
   pub finish-none : c .last ≡ Nothing → finishOf t c k ≡ loneOf t c k
   unfolding finishOf finishLast
   finish-none e = rw e
