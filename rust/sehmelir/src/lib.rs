@@ -262,7 +262,7 @@ pub fn take_width(value: f32) -> Result<i32, Untaken> {
 /// assert_eq!(path, [0, 0, 5, 20, 0, 5, 7, 7]);
 /// ```
 ///
-/// # Refusals
+/// # Errors
 ///
 /// In this order: [`NotTriples`](Refusal::NotTriples),
 /// [`TooMany`](Refusal::TooMany), [`NotTaken`](Refusal::NotTaken),
@@ -295,7 +295,7 @@ pub fn import(numbers: &[f32], out: &mut [i32]) -> Result<usize, Refusal> {
 /// assert_eq!(old, [-1500.0, 20.0, 650.0, 7.0]);
 /// ```
 ///
-/// # Refusals
+/// # Errors
 ///
 /// Those of [`import`]; [`NotTaken`](Refusal::NotTaken) is of a number that no
 /// float is, or that lies outside the limits.
