@@ -75,7 +75,7 @@ pub fn export(numbers: &[i32], out: &mut [f32]) -> Exported
 {
     let m = numbers.len();
     if m % 3 != 0 {
-        return Exported::Refused(Refusal::NotTriples(m));
+        return Exported::Refused(Refusal::Uneven(m));
     }
     let n = m / 3;
     if 4096 < n {

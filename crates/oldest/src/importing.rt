@@ -67,7 +67,7 @@ pub fn import(floats: &[f32], out: &mut [i32]) -> Imported
 {
     let m = floats.len();
     if m % 3 != 0 {
-        return Imported::Refused(Refusal::NotTriples(m));
+        return Imported::Refused(Refusal::Uneven(m));
     }
     let n = m / 3;
     if 4096 < n {

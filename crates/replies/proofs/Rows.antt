@@ -10,7 +10,7 @@ use Rattle.replies.specs.Replies.{Row, Reply, firstRow, roomRow, written
 use lib.Dec.{eqb}
 use Rattle.replies.specs.Refusals.{refusalOf, Codes}
 use Rattle.replies.specs.declared.Refusal.{Refusal}
-use Rattle.replies.specs.declared.Refusal.the-variants.{NotTriples, TooMany, Grade, Outside, NoRoom, NotOutline, Kind, NotSound, NoVertex, NotTaken}
+use Rattle.replies.specs.declared.Refusal.the-variants.{Uneven, TooMany, Grade, Outside, NoRoom, NotOutline, Kind, NotSound, NoVertex, NoEdge, StyleWord, OtherKind, NotTaken, Damaged, KeyThere, KeyMissing, TableFull, WithoutEdges, NoListRoom}
 
 abbrev pub NoneHold : List Row → Type 0
 NoneHold [] = Unit {0}
@@ -45,7 +45,7 @@ room-enough needed room number last h = rw (le-ltb room needed h, firstRow)
 -- a refusal's number is not 0, so lent memory stays; after 0 the result stands first
 pub refusal-some : (r : Refusal) → eqb (refusalOf r .0) 0 ≡ false
 unfolding refusalOf
-refusal-some (NotTriples n) = refl
+refusal-some (Uneven n) = refl
 refusal-some (TooMany n) = refl
 refusal-some (Grade g) = refl
 refusal-some (Outside i) = refl
@@ -54,7 +54,16 @@ refusal-some NotOutline = refl
 refusal-some (Kind k) = refl
 refusal-some (NotSound i) = refl
 refusal-some (NoVertex i) = refl
+refusal-some (NoEdge i) = refl
+refusal-some (StyleWord i) = refl
+refusal-some (OtherKind k) = refl
 refusal-some (NotTaken i) = refl
+refusal-some Damaged = refl
+refusal-some (KeyThere k) = refl
+refusal-some (KeyMissing k) = refl
+refusal-some (TableFull n) = refl
+refusal-some (WithoutEdges n) = refl
+refusal-some (NoListRoom n) = refl
 
 pub refused-written {ℓ} : {A : Type ℓ} (r : Refusal) {reply : Reply} (made room : List A) → refusalOf r ≡ reply → room ≡ written reply made room
 unfolding written

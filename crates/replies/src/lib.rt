@@ -4,7 +4,7 @@ pub mod refusals;
 
 // Why a call is refused, each with the number that goes beside its reply. They are appended, never renumbered.
 pub enum Refusal {
-    NotTriples(usize),
+    Uneven(usize),
     TooMany(usize),
     Grade(u32),
     Outside(usize),
@@ -13,7 +13,16 @@ pub enum Refusal {
     Kind(u32),
     NotSound(usize),
     NoVertex(usize),
+    NoEdge(usize),
+    StyleWord(u32),
+    OtherKind(u32),
     NotTaken(usize),
+    Damaged,
+    KeyThere(u32),
+    KeyMissing(u32),
+    TableFull(usize),
+    WithoutEdges(usize),
+    NoListRoom(usize),
 }
 
 // A reply, and the number with it.

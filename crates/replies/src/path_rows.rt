@@ -15,7 +15,7 @@ pub fn check_path(path: &[i32], grade: u32) -> PathCheck
 {
     let m = path.len();
     if m % 3 != 0 {
-        return PathCheck::Refused(Refusal::NotTriples(m));
+        return PathCheck::Refused(Refusal::Uneven(m));
     }
     if grade < 1 {
         return PathCheck::Refused(Refusal::Grade(grade));

@@ -16,7 +16,7 @@ pub fn code(r: Refusal) -> Code
     ensures { λ c. ⌜ Codes c (refusalOf r) ⌝ }
 {
     match r {
-        Refusal::NotTriples(n) => coded(1, n as u64),
+        Refusal::Uneven(n) => coded(1, n as u64),
         Refusal::TooMany(n) => coded(2, n as u64),
         Refusal::Grade(g) => coded(3, g as u64),
         Refusal::Outside(i) => coded(4, i as u64),
@@ -25,6 +25,15 @@ pub fn code(r: Refusal) -> Code
         Refusal::Kind(k) => coded(7, k as u64),
         Refusal::NotSound(i) => coded(8, i as u64),
         Refusal::NoVertex(i) => coded(9, i as u64),
+        Refusal::NoEdge(i) => coded(10, i as u64),
+        Refusal::StyleWord(i) => coded(11, i as u64),
+        Refusal::OtherKind(k) => coded(12, k as u64),
         Refusal::NotTaken(i) => coded(13, i as u64),
+        Refusal::Damaged => coded(14, 0),
+        Refusal::KeyThere(k) => coded(15, k as u64),
+        Refusal::KeyMissing(k) => coded(16, k as u64),
+        Refusal::TableFull(n) => coded(17, n as u64),
+        Refusal::WithoutEdges(n) => coded(18, n as u64),
+        Refusal::NoListRoom(n) => coded(19, n as u64),
     }
 }
