@@ -10,7 +10,7 @@ use Rattle.replies.specs.declared.Refusal.{Refusal}
 use Rattle.replies.specs.declared.Refusal.the-variants.{Uneven, TooMany, Grade, Outside, NoRoom, NotOutline, Kind, NotSound, NoVertex, NoEdge, StyleWord, OtherKind, NotTaken, Damaged, KeyThere, KeyMissing, TableFull, WithoutEdges, NoListRoom}
 
 -- the refusals by number, each with the number beside it
-unfoldable refusals : ℕ → List Refusal
+unfoldable pub refusals : ℕ → List Refusal
 refusals n = Uneven n ∷ TooMany n ∷ Grade n ∷ Outside n ∷ NoRoom n ∷ NotOutline ∷ Kind n ∷ NotSound n ∷ NoVertex n ∷ NoEdge n ∷ StyleWord n ∷ OtherKind n ∷ NotTaken n ∷ Damaged ∷ KeyThere n ∷ KeyMissing n ∷ TableFull n ∷ WithoutEdges n ∷ NoListRoom n ∷ []
 
 -- the answer that has a reply, for any type of answers: `done` for 0, else the refusal

@@ -24,7 +24,7 @@ use Rattle.replies.specs.Checks.{Fits, orPath, PathSays}
 use Rattle.replies.proofs.Rows.{rows-append}
 use Rattle.contacts.proofs.Allowed.{outside-most}
 use Rattle.replies.specs.declared.Refusal.{Refusal}
-use Rattle.replies.specs.declared.Refusal.the-variants.{NotTriples, TooMany, Grade, Outside}
+use Rattle.replies.specs.declared.Refusal.the-variants.{Uneven, TooMany, Grade, Outside}
 use Rattle.replies.specs.declared.path_rows.PathCheck.{PathCheck}
 use Rattle.replies.specs.declared.path_rows.PathCheck.the-variants.{Passed, Refused}
 
@@ -39,9 +39,9 @@ module _ (path : List ℤ) (g : ℕ) where
   unfolding orPath
   refused r h = record { says = h; fits = λ n e. absurd (refused-not r n e) }
 
-  pub not-triples : (length path % 3 ≡ 0 → ⊥) → PathSays path g (Refused (NotTriples (length path)))
+  pub not-triples : (length path % 3 ≡ 0 → ⊥) → PathSays path g (Refused (Uneven (length path)))
   unfolding pathRows triplesRow firstRow refusalOf
-  not-triples h = refused (NotTriples (length path)) (λ more. rw (ne-eqb (length path % 3) 0 h, firstRow))
+  not-triples h = refused (Uneven (length path)) (λ more. rw (ne-eqb (length path % 3) 0 h, firstRow))
 
   module _ (h₁ : length path % 3 ≡ 0) where
     pub grade-low : g < 1 → PathSays path g (Refused (Grade g))

@@ -1,13 +1,14 @@
 -- Rows of replies: one list after another, what a refusal leaves in lent memory, and that the reply 0 means that every row failed. Assumes nothing.
 use mathlib.Core.Path.{_≡_, refl, sym, ap, _∙_}
-use mathlib.Core.Bool.{Bool, true, false, true≢false, _||_}
+use mathlib.Core.Bool.{Bool, true, false, true≢false, _&&_, _||_}
 use mathlib.Core.List.{List, [], _∷_, _++_}
 use Prim.Native.Nat.{ℕ, _+_, _≤_, _<_}
+use native.Mathlib.Omega.{arith}
 use lib.ListN.{length, drop}
-use borrow.Author.Tests.{le-ltb, lt-ltb, eq-eqb}
+use borrow.Author.Tests.{le-ltb, lt-ltb, eq-eqb, ne-eqb}
 use Rattle.replies.specs.declared.Code.{Code}
-use Rattle.replies.specs.Replies.{Row, Reply, firstRow, roomRow, written}
-use lib.Dec.{eqb}
+use Rattle.replies.specs.Replies.{Row, Reply, firstRow, emptyRow, roomRow, written}
+use lib.Dec.{eqb, ltb}
 use Rattle.replies.specs.Refusals.{refusalOf, Codes}
 use Rattle.replies.specs.declared.Refusal.{Refusal}
 use Rattle.replies.specs.declared.Refusal.the-variants.{Uneven, TooMany, Grade, Outside, NoRoom, NotOutline, Kind, NotSound, NoVertex, NoEdge, StyleWord, OtherKind, NotTaken, Damaged, KeyThere, KeyMissing, TableFull, WithoutEdges, NoListRoom}
@@ -32,6 +33,23 @@ pub rows-append {ℓ} : {A : Type ℓ} (rs qs : List (Bool × A)) (last : A) →
 unfolding firstRow
 rows-append [] qs last = refl
 rows-append (r ∷ rs) qs last = λ i. elim (r .0) [ true ↦ r .1 | false ↦ rows-append rs qs last i ]
+
+-- the row of a path without edges
+and-false : (b : Bool) → (b && false) ≡ false
+and-false true = refl
+and-false false = refl
+
+pub empty-holds : (n m : ℕ) (rows : List Row) (last : Reply) → 0 < n → m ≡ 0 → firstRow (emptyRow n m ∷ rows) last ≡ (18, n)
+unfolding firstRow emptyRow
+empty-holds n m rows last h e = rw (lt-ltb 0 n h, eq-eqb m 0 e, firstRow)
+
+pub empty-fails : (n m : ℕ) (rows : List Row) (last : Reply) → 0 < m → firstRow (emptyRow n m ∷ rows) last ≡ firstRow rows last
+unfolding firstRow emptyRow
+empty-fails n m rows last h = rw (ne-eqb m 0 (λ e. omega (arith, h, e)), and-false (ltb 0 n), firstRow)
+
+pub no-vertices : (m : ℕ) (rows : List Row) (last : Reply) → firstRow (emptyRow 0 m ∷ rows) last ≡ firstRow rows last
+unfolding firstRow emptyRow
+no-vertices m rows last = refl
 
 -- the row of the room lent
 pub room-short : (needed room number : ℕ) (last : Reply) → room < needed → firstRow (roomRow needed room number ∷ []) last ≡ (5, number)

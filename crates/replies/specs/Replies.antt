@@ -1,5 +1,5 @@
 -- Document 01, "Replies, tested in this order": rows, and lent memory afterwards.
-use mathlib.Core.Bool.{Bool, true, false, not, _||_}
+use mathlib.Core.Bool.{Bool, true, false, not, _&&_, _||_}
 use mathlib.Core.List.{List, [], _∷_, _++_}
 use Prim.Native.Nat.{ℕ, _+_, _%_}
 use lib.Dec.{eqb, ltb, leb}
@@ -47,6 +47,10 @@ indexRow n k = (leb n k, (9, k))
 -- 4, new vertex outside the limits: the index.
 unfoldable pub newRow : Vertex → ℕ → Row
 newRow v k = (not (allowedOf v), (4, k))
+
+-- Document 02, request 9. 18, a path of one vertex or more that has no edges: its vertices.
+unfoldable pub emptyRow : ℕ → ℕ → Row
+emptyRow n m = (ltb 0 n && eqb m 0, (18, n))
 
 -- 5, result longer than the room lent: edges, vertices or bytes needed. Room is compared with the result the rules give.
 unfoldable pub roomRow : ℕ → ℕ → ℕ → Row
