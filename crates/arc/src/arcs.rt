@@ -3,10 +3,12 @@ use crate::circle::circle;
 use folds::Pen;
 use folds::folding::fold;
 use leaps::turns::turns;
+use number::guess::near_root;
 use number::root::root;
 use plane::Point;
 use plane::direction::direction;
 use plane::direction::measured;
+use plane::direction::rounded;
 use plane::rotation::rotated;
 use plane::vectors::cross;
 use plane::vectors::from_to;
@@ -33,7 +35,8 @@ fn ring(out: &mut [i32], at: usize, pen: Pen, c: Point, p: Point, q: Point) -> u
     requires { ⌜ Room edgeNumbers at (circleOf (pen .step) c (ringOf (fromTo c p)) ++ edgeOf p q) ⌝ }
     ensures { λ n. ⌜ Lays (pen .step) (pen .folds) (now (out .entry)) at (circleOf (pen .step) c (ringOf (fromTo c p)) ++ edgeOf p q) (now (out .exit)) n ⌝ }
 {
-    let radius = root(square(from_to(c, p))) as i64;
+    let s = square(from_to(c, p));
+    let radius = root(s, near_root(s)) as i64;
     let n = circle(out, at, pen, c, radius);
     edge(out, n, p, q)
 }
@@ -72,7 +75,7 @@ pub fn arc(
     if stops(cross(d, e), d, next, e) {
         return edge(out, at, p, q);
     }
-    let radius = root(k.square) as i64;
+    let radius = rounded(k) as i64;
     let r = Turning {
         step: t,
         centre: c,

@@ -2,6 +2,7 @@
 use crate::Kind;
 use crate::Vertex;
 use number::division::mul_div;
+use number::guess::near_root;
 use number::root::root;
 use number::sign::size;
 use plane::Point;
@@ -82,7 +83,8 @@ fn tangent(sq: u64, delta: i64, k: u32) -> u32
     ensures { λ r. ⌜ r ≡ tangentOf sq delta ⌝ }
 {
     let d = size(delta);
-    root((sq - d * d) << (2 * k))
+    let n = (sq - d * d) << (2 * k);
+    root(n, near_root(n))
 }
 
 // a * 2^k.

@@ -3,6 +3,7 @@ use crate::Vector;
 use crate::vectors::square;
 use number::guess::level;
 use number::guess::reciprocal_root;
+use number::root::root;
 use number::sign::signed;
 use number::sign::size;
 use number::wide::high;
@@ -10,6 +11,7 @@ use number::wide::product;
 ghost use mathlib.Core.Path.{_≡_};
 ghost use Prim.Native.Nat.{_+_, _*_, _^_, _<_, _≤_};
 ghost use lib.Dec.{leb};
+ghost use Rattle.number.specs.Root.{rootOf};
 ghost use Rattle.plane.specs.Vectors.{Short, squareOf};
 ghost use Rattle.plane.specs.Directions.{partOf, directionOf, stepOf};
 ghost use Rattle.plane.specs.Swings.{Settles, Measures};
@@ -108,6 +110,15 @@ pub fn measured(v: Vector) -> Length
         level: k,
         reciprocal: h,
     }
+}
+
+// A length rounded down: the root of its square, from a guess that the reciprocal gives.
+pub fn rounded(l: Length) -> u32
+    requires { ⌜ l .level ≤ 31 ⌝ }
+    ensures { λ r. ⌜ r ≡ rootOf (l .square) ⌝ }
+{
+    let near = high(l.square << (2 * l.level), l.reciprocal) >> (29 + l.level);
+    root(l.square, (near % 0x1_0000_0000) as u32)
 }
 
 // The direction of a vector that is not zero, by its length.

@@ -19,7 +19,7 @@ pub fn root(n: Number) -> Answer {
     if n.minus {
         return Answer::Outside;
     }
-    Answer::One(number::root::root(n.size) as i64)
+    Answer::One(number::root::root(n.size, number::guess::near_root(n.size)) as i64)
 }
 
 // The two limbs of a product.

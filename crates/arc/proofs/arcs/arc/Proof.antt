@@ -73,15 +73,15 @@ stopped-arc : (c : tie.Then3) → let a = second (c .before .before .before .bef
 stopped-arc c = turned-arc (c .before .before .before .before .before) refl ∙ turns-stop _ _ _ _ (omega arith) (c .before .before .before .rotated .ensures) (c .before .stops .ensures) (c .if3 .taken)
 
 -- the radius of its inner points
-radius : (c : tie.After-root) → let a = second (c .before .before .before .before .before .before .before) .args in toZ w64 (c .root .result) ≡ ringOf (fromTo (a .c) (a .p))
+radius : (c : tie.After-rounded) → let a = second (c .before .before .before .before .before .before .before) .args in toZ w64 (c .rounded .result) ≡ ringOf (fromTo (a .c) (a .p))
 radius c =
     let d = c .before .before .before .before .before .before .before .before in
     let b = d .before .before .before .before in
-    ring-told (first b .pre .0 .2) (b .before .before .before .before .from-to .ensures) (d .before .before .before .measured .ensures .square) (c .root .ensures)
+    ring-told (first b .pre .0 .2) (b .before .before .before .before .from-to .ensures) (d .before .before .before .measured .ensures .square) (c .rounded .ensures)
 
 -- what it keeps while it turns, within the limits
-kept : (c : tie.After-root) → let s = c .before .before .before .before .before .before in let a = second (s .before) .args in
-    Turns (record { step = a .pen .step; centre = a .c; radius = toZ w64 (c .root .result); to = a .q; toward = s .before .before .direction2 .result }) × UnitLong (s .before .before .before .direction .result) × Near (a .p)
+kept : (c : tie.After-rounded) → let s = c .before .before .before .before .before .before in let a = second (s .before) .args in
+    Turns (record { step = a .pen .step; centre = a .c; radius = toZ w64 (c .rounded .result); to = a .q; toward = s .before .before .direction2 .result }) × UnitLong (s .before .before .before .direction .result) × Near (a .p)
 kept c =
     let s = c .before .before .before .before .before .before in
     let h = second (s .before) .pre .0 in
@@ -158,8 +158,8 @@ returns-3 c =
     let h = second (c .before .before .before .before .before .before .before .before .before) .pre .0 in
     lays-as (stopped-arc (c .before .before .before)) (lays-edge (about-near (h .2) (h .1)) (about-near (h .3) (h .1)) (c .before .edge .ensures))
 
-root-requires : tie.Need-root-requires
-root-requires c κs = search needs
+rounded-requires : tie.Need-rounded-requires
+rounded-requires c κs = search needs
 
 cast-radius : tie.Need-cast-radius
 cast-radius c = search needs
@@ -217,7 +217,7 @@ arc-spec =
     edge-requires
     same-length-2
     returns-3
-    root-requires
+    rounded-requires
     cast-radius
     fold-requires
     same-length-3

@@ -22,38 +22,42 @@ square c = rw (length c) (c .before .pre .0)
 room : (c : tie.After-size) → Shifts (c .before .args .sq) (c .before .args .k)
 room c = shifts-as _ _ (omega (arith, c .before .pre .0)) (c .before .pre .1) (c .before .pre .2)
 
-mul-root : tie.Need-mul-root
-mul-root c = omega (arith, square c, c .before .pre .1)
+mul-n : tie.Need-mul-n
+mul-n c = omega (arith, square c, c .before .pre .1)
 
-sub-root : tie.Need-sub-root
-sub-root c = omega (arith, square c)
+sub-n : tie.Need-sub-n
+sub-n c = omega (arith, square c)
 
-mul-root-2 : tie.Need-mul-root-2
-mul-root-2 c = omega (arith, room c .high)
+mul-n-2 : tie.Need-mul-n-2
+mul-n-2 c = omega (arith, room c .high)
 
-cast-root : tie.Need-cast-root
-cast-root c = search needs
+cast-n : tie.Need-cast-n
+cast-n c = search needs
 
-shl-root : tie.Need-shl-root
-shl-root c = omega (arith, room c .high)
+shl-n : tie.Need-shl-n
+shl-n c = omega (arith, room c .high)
+
+near-root-requires : tie.Need-near-root-requires
+near-root-requires c κs = search needs
 
 root-requires : tie.Need-root-requires
 root-requires c κs = search needs
 
 returns : tie.Need-returns
 returns c =
-    let s = c .before .before in
-    tangent-back _ _ (omega (arith, s .pre .0)) (s .pre .1) (s .pre .2) _ (length (c .before)) (c .root .ensures)
+    let s = c .before .before .before in
+    tangent-back _ _ (omega (arith, s .pre .0)) (s .pre .1) (s .pre .2) _ (length (c .before .before)) (c .root .ensures)
 
 pub tangent-spec : {M : Type 1} → statement M
 tangent-spec =
     tie.close
     (tie.spec
     size-requires
-    mul-root
-    sub-root
-    mul-root-2
-    cast-root
-    shl-root
+    mul-n
+    sub-n
+    mul-n-2
+    cast-n
+    shl-n
+    near-root-requires
     root-requires
     returns)
