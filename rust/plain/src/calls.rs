@@ -3,9 +3,11 @@
 //!
 //! "A refusal changes no lent memory."
 
-use crate::chains::{self, walk};
+use crate::chains::{self, walk, Drawing};
 use crate::contacts::Vertex;
-use crate::outline::{first_difference, put, vertices, words, Header, EDITION, KIND, LEAST_BYTES};
+use crate::outline::{
+    first_difference, laid, put, vertices, words, Header, EDITION, KIND, LEAST_BYTES,
+};
 
 /// What is ported: "0 to 4,096 vertices".
 pub const MOST_VERTICES: u64 = 4096;
@@ -70,6 +72,24 @@ pub(crate) fn tested_room(count: usize, size: usize, room: usize) -> Result<(), 
     } else {
         Err(Reply::new(5, count as u64))
     }
+}
+
+/// Document 02, request 9: 18, "a path of one vertex or more that has no
+/// edges", "with the number of vertices".
+fn tested_edges(vertices: usize, edges: usize) -> Result<(), Reply> {
+    if vertices == 0 || edges > 0 {
+        Ok(())
+    } else {
+        Err(Reply::new(18, vertices as u64))
+    }
+}
+
+/// Draw, keep, replace: what a path gives, which "draw, keep and replace
+/// refuse" if that is nothing.
+fn drawn(path: &[Vertex], grade: u32) -> Result<Drawing, Reply> {
+    let drawing = walk(path, grade);
+    tested_edges(path.len(), drawing.edges.len())?;
+    Ok(drawing)
 }
 
 /// Draw, keep: the path of the lent numbers, three a vertex, or the refusal.
@@ -140,7 +160,7 @@ pub(crate) fn settle(call: impl FnOnce() -> Result<Reply, Reply>) -> Reply {
 pub fn draw(numbers: &[i32], grade: u32, room: &mut [i32]) -> Reply {
     settle(|| {
         let path = lent_path(numbers, grade)?;
-        let edges = walk(&path, grade).edges;
+        let edges = drawn(&path, grade)?.edges;
         tested_room(edges.len(), 4, room.len())?;
         room[..4 * edges.len()].copy_from_slice(edges.as_flattened());
         Ok(Reply::new(0, edges.len() as u64))
@@ -151,7 +171,7 @@ pub fn draw(numbers: &[i32], grade: u32, room: &mut [i32]) -> Reply {
 pub fn keep(numbers: &[i32], grade: u32, room: &mut [u8]) -> Reply {
     settle(|| {
         let path = lent_path(numbers, grade)?;
-        let words = words(&path, grade);
+        let words = laid(&path, grade, &drawn(&path, grade)?);
         let length = 4 * words.len();
         tested_room(length, 1, room.len())?;
         put(&words, &mut room[..length]);
@@ -191,7 +211,7 @@ pub fn replace(store: &mut [u8], index: usize, x: i32, y: i32, radius: i32) -> R
         if !path[index].allowed() {
             return Err(Reply::new(4, index as u64));
         }
-        let words = words(&path, grade);
+        let words = laid(&path, grade, &drawn(&path, grade)?);
         let length = 4 * words.len();
         tested_room(length, 1, store.len())?;
         put(&words, &mut store[..length]);

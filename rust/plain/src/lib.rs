@@ -9,8 +9,8 @@
 //! * [`arcs`] holds "Arcs"
 //! * [`chains`] holds "Chains"
 //! * [`outline`] holds "The kept outline"
-//! * [`calls`] holds the four calls, "Replies, tested in this order", and how
-//!   far replacing a vertex shows
+//! * [`calls`] holds the four calls, "Replies, tested in this order", document
+//!   02's request 9, "No silent nothing", and how far replacing a vertex shows
 //! * [`oldest`] holds document 02's request 5, "The oldest chunks"
 //! * [`random`] holds the generator behind the tests and the lists of cases
 

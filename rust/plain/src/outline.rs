@@ -64,11 +64,11 @@ pub fn vertices(store: &[u8]) -> Vec<Vertex> {
 /// The kept outline, in words: header, "Per vertex: x, y, radius, number of
 /// edges emitted on reaching it. One word: number of closing edges. Bodies: m
 /// edges of four words, start then end."
-pub fn words(path: &[Vertex], grade: u32) -> Vec<u32> {
-    let Drawing { edges, counts } = walk(path, grade);
+pub fn laid(path: &[Vertex], grade: u32, drawing: &Drawing) -> Vec<u32> {
+    let Drawing { edges, counts } = drawing;
     let mut words = Vec::with_capacity(6 + 4 * path.len() + 4 * edges.len());
     words.extend([EDITION, KIND, grade, path.len() as u32, edges.len() as u32]);
-    for (vertex, count) in path.iter().zip(&counts) {
+    for (vertex, count) in path.iter().zip(counts) {
         words.extend([
             vertex.x as u32,
             vertex.y as u32,
@@ -79,6 +79,11 @@ pub fn words(path: &[Vertex], grade: u32) -> Vec<u32> {
     words.extend(counts.last());
     words.extend(edges.as_flattened().iter().map(|&number| number as u32));
     words
+}
+
+/// The kept outline, in words: what "its own vertices and grade give".
+pub fn words(path: &[Vertex], grade: u32) -> Vec<u32> {
+    laid(path, grade, &walk(path, grade))
 }
 
 /// The kept outline: the words, "little-endian", into as many lent bytes.

@@ -113,6 +113,26 @@ fn every_reply_of_draw_and_keep_in_order() {
         assert_eq!(numbers(&mut [], path, grade), expected);
         assert_eq!(bytes(&mut [], path, grade), expected);
     }
+    // Without edges: after every test of a vertex, before the room.
+    let thin: &[i32] = &[0, 0, 1, 20, 0, 1];
+    let table: [(&[i32], u32, Reply); 8] = [
+        (&[0, 0, 0], 1, Reply::new(18, 1)),
+        (&[0, 0, 1], 8, Reply::new(18, 1)),
+        (thin, 1, Reply::new(18, 2)),
+        (&vec![0; 3 * 4096], 1, Reply::new(18, 4096)),
+        (&vec![0; 3 * 4097], 1, Reply::new(2, 4097)),
+        (&[0, 0, 1, 20, 0, -1], 1, Reply::new(4, 1)),
+        (thin, 9, Reply::new(3, 9)),
+        (&thin[..5], 1, Reply::new(1, 5)),
+    ];
+    for (path, grade, expected) in table {
+        for room in [0, 55, 56, 100] {
+            assert_eq!(numbers(&mut vec![0; room], path, grade), expected);
+            assert_eq!(bytes(&mut vec![0; room], path, grade), expected);
+        }
+    }
+    assert_eq!(bytes(&mut [0; 23], &[], 1), Reply::new(5, 24));
+    assert_eq!(bytes(&mut [0; 24], &[], 1), Reply::new(0, 24));
     assert_eq!(numbers(&mut [0; 31], &[0, 0, 10], 1), Reply::new(5, 8));
     assert_eq!(numbers(&mut [0; 32], &[0, 0, 10], 1), Reply::new(0, 8));
     assert_eq!(bytes(&mut [0; 167], &[0, 0, 10], 1), Reply::new(5, 168));
@@ -177,7 +197,33 @@ fn every_reply_of_read_and_replace_in_order() {
     assert_eq!(replace(&mut changed, 1, far, 0, 0), Reply::new(9, 1));
     assert_eq!(replace(&mut changed, 0, far, 0, 0), Reply::new(4, 0));
     assert_eq!(replace(&mut changed, 0, 0, 0, -1), Reply::new(4, 0));
+    assert_eq!(replace(&mut changed, 0, 0, 0, 1), Reply::new(18, 1));
     assert_eq!(changed, store);
+}
+
+#[test]
+fn an_outline_without_edges_still_reads_and_is_replaced() {
+    let path = [(0, 0, 1), (20, 0, 1)];
+    let store = kept(&path, 1);
+    assert_eq!(store.len(), 56);
+    let mut room = [7; 7];
+    let read = read(&store, &mut room);
+    assert_eq!((read.reply, read.number, read.grade), (0, 2, 1));
+    assert_eq!(room, [0, 0, 1, 20, 0, 1, 7]);
+    let mut changed = store.clone();
+    assert_eq!(replace(&mut changed, 2, 0, 0, 0), Reply::new(9, 2));
+    assert_eq!(replace(&mut changed, 1, 0, 0, -1), Reply::new(4, 1));
+    assert_eq!(replace(&mut changed, 1, 9, 9, 0), Reply::new(18, 2));
+    assert_eq!(changed, store);
+    let new = kept(&[(0, 0, 1), (20, 0, 2)], 1);
+    let needed = Reply::new(5, new.len() as u64);
+    assert_eq!(replace(&mut changed, 1, 20, 0, 2), needed);
+    changed.resize(new.len(), 0);
+    assert_eq!(replace(&mut changed, 1, 20, 0, 2).reply, 0);
+    assert_eq!(changed, new);
+    // Back to none: not written.
+    assert_eq!(replace(&mut changed, 1, 20, 0, 1), Reply::new(18, 2));
+    assert_eq!(changed, new);
 }
 
 #[test]
@@ -190,10 +236,16 @@ fn a_replaced_outline_grows_into_its_room_and_shrinks_with_zeros() {
     assert_eq!(replace(&mut store, 0, 0, 0, 10), Reply::new(0, 168));
     assert_eq!(store[..168], kept(&[(0, 0, 10)], 1));
     assert_eq!(store[168..], [0xEE; 12]);
-    assert_eq!(replace(&mut store, 0, 3, 4, 1), Reply::new(0, 40));
-    assert_eq!(store[..40], kept(&[(3, 4, 1)], 1));
-    assert_eq!(store[40..168], [0; 128]);
-    assert_eq!(store[168..], [0xEE; 12]);
+
+    let path = [(0, 0, 10), (3, 0, 2)];
+    let mut store = kept(&path, 1);
+    let old = store.len();
+    assert_eq!(old, 24 + 16 * (2 + 16));
+    store.resize(old + 12, 0xEE);
+    assert_eq!(replace(&mut store, 1, 20, 0, 10), Reply::new(0, 216));
+    assert_eq!(store[..216], kept(&[(0, 0, 10), (20, 0, 10)], 1));
+    assert!(store[216..old].iter().all(|&byte| byte == 0));
+    assert_eq!(store[old..], [0xEE; 12]);
 }
 
 #[test]

@@ -2,10 +2,11 @@
 
 mod common;
 
-use common::{kept, numbers, random_path, random_scale, random_vertex, vertices};
+use common::{counts, kept, numbers, random_path, random_scale, random_vertex, vertices};
 use plain::calls::{draw, keep, reach, read, replace, Reply};
 use plain::chains::{self, bodies};
 use plain::contacts::{kind, Kind};
+use plain::outline::LEAST_BYTES;
 use plain::random::Random;
 
 #[test]
@@ -18,7 +19,13 @@ fn draw_and_keep_hold_the_bodies() {
         let edges: Vec<i32> = bodies.concat().concat();
         let mut room = vec![9; edges.len() + 5];
         let drawn = draw(&numbers(&path), grade, &mut room);
-        assert_eq!(drawn, Reply::new(0, edges.len() as u64 / 4));
+        let none = edges.is_empty() && !path.is_empty();
+        let without_edges = Reply::new(18, path.len() as u64);
+        if none {
+            assert_eq!(drawn, without_edges);
+        } else {
+            assert_eq!(drawn, Reply::new(0, edges.len() as u64 / 4));
+        }
         assert_eq!(room[..edges.len()], edges);
         assert_eq!(room[edges.len()..], [9; 5]);
 
@@ -30,6 +37,37 @@ fn draw_and_keep_hold_the_bodies() {
         words.extend(edges.iter().map(|&number| number as u32));
         let bytes: Vec<u8> = words.iter().flat_map(|word| word.to_le_bytes()).collect();
         assert_eq!(kept(&path, grade), bytes);
+        let mut room = vec![0xA5; bytes.len() + 5];
+        let reply = keep(&numbers(&path), grade, &mut room);
+        if none {
+            assert_eq!(reply, without_edges);
+            assert!(room.iter().all(|&byte| byte == 0xA5));
+        } else {
+            assert_eq!(reply, Reply::new(0, bytes.len() as u64));
+            assert_eq!(room[..bytes.len()], bytes);
+            assert_eq!(room[bytes.len()..], [0xA5; 5]);
+        }
+    }
+}
+
+/// A step whose larger radius is below 2 is thin or broken, and so small a
+/// circle has no edges.
+#[test]
+fn a_path_has_edges_exactly_if_a_radius_is_2_or_more() {
+    let mut random = Random::new(17);
+    for _ in 0..20_000 {
+        let mut path = random_path(&mut random, 7);
+        if random.chance(30) {
+            path.iter_mut().for_each(|vertex| vertex.2 %= 2);
+        }
+        if !path.is_empty() && random.chance(30) {
+            let place = random.below(path.len() as u64) as usize;
+            path[place].2 = 2;
+        }
+        let grade = random.between(1, 8) as u32;
+        let edges: usize = counts(&path, grade).iter().sum();
+        let wide = path.iter().any(|&(_, _, radius)| radius >= 2);
+        assert_eq!(edges > 0, wide, "{path:?}");
     }
 }
 
@@ -77,7 +115,13 @@ fn replacing_equals_keeping_the_changed_path() {
         let mut store = old.clone();
         let longest = old.len().max(new.len());
         store.resize(longest + 3, 0xEE);
+        let before = store.clone();
         let reply = replace(&mut store, index, x, y, r);
+        if new.len() == LEAST_BYTES + 16 * path.len() {
+            assert_eq!(reply, Reply::new(18, path.len() as u64));
+            assert_eq!(store, before);
+            continue;
+        }
         assert_eq!(reply, Reply::new(0, new.len() as u64));
         assert_eq!(store[..new.len()], new);
         let shrunk = new.len()..old.len().max(new.len());
@@ -194,7 +238,9 @@ fn refusals_change_nothing() {
         let mut store = kept(&path, grade);
         let mut room = vec![7; random.below(store.len() as u64) as usize];
         let before = room.clone();
-        assert_eq!(keep(&lent, grade, &mut room).reply, 5);
+        let thin = !path.is_empty() && path.iter().all(|&(_, _, radius)| radius < 2);
+        let expected = if thin { 18 } else { 5 };
+        assert_eq!(keep(&lent, grade, &mut room).reply, expected);
         assert_eq!(room, before);
 
         let at = random.below(store.len() as u64) as usize;

@@ -3,7 +3,8 @@
 use super::line;
 use crate::answers::needed;
 use plain::calls::{draw, keep};
-use plain::contacts::LIMIT;
+use plain::contacts::{Vertex, LIMIT};
+use plain::outline;
 use plain::random::Random;
 
 const MOST: i32 = LIMIT as i32;
@@ -60,11 +61,21 @@ fn needed_numbers(path: &[i32], grade: u32) -> usize {
     }
 }
 
-/// The outline of a path that is not refused.
+/// The outline of a path inside the limits, also of one without edges, which
+/// was kept once and still reads.
 fn kept(path: &[i32], grade: u32) -> Vec<u8> {
-    let mut store = vec![0; needed(path, grade)];
-    keep(path, grade, &mut store);
-    store
+    let vertex = |n: &[i32]| Vertex::new(n[0] as i64, n[1] as i64, n[2] as i64);
+    let path: Vec<Vertex> = path.chunks_exact(3).map(vertex).collect();
+    outline::bytes(&path, grade)
+}
+
+/// The bytes that a path's outline has, whether or not its edges are any; 0 if
+/// the path is refused for another reason.
+fn length(path: &[i32], grade: u32) -> usize {
+    match keep(path, grade, &mut []).reply {
+        5 | 18 => kept(path, grade).len(),
+        _ => 0,
+    }
 }
 
 fn case<T: Copy + Into<i64>>(head: &[i64], lent: &[T]) -> String {
@@ -120,6 +131,7 @@ pub fn fixed() -> Vec<String> {
         }
     }
     refused_paths(&mut cases);
+    paths_without_edges(&mut cases);
     refused_stores(&mut cases);
     changed_lengths(&mut cases);
     each_byte_damaged(&mut cases);
@@ -134,7 +146,7 @@ fn each_call(cases: &mut Vec<String>, path: &[Triple], grade: u32) {
     cases.push(draw_case(grade, room, &path));
     cases.push(draw_case(grade, room + 3, &path));
     cases.push(draw_case(grade, room.saturating_sub(1), &path));
-    let room = needed(&path, grade);
+    let room = length(&path, grade);
     cases.push(keep_case(grade, room, &path));
     cases.push(keep_case(grade, room + 3, &path));
     cases.push(keep_case(grade, room.saturating_sub(1), &path));
@@ -156,7 +168,7 @@ fn each_call(cases: &mut Vec<String>, path: &[Triple], grade: u32) {
     let longer = [store.as_slice(), &[0xEE; 7]].concat();
     cases.push(read_case(path.len(), &longer));
     for index in 0..=path.len() / 3 {
-        for vertex in [[0, 0, 0], [2, 1, 4]] {
+        for vertex in [[0, 0, 0], [0, 0, 1], [2, 1, 4]] {
             cases.push(replace_case(index as i64, vertex, &store));
             cases.push(replace_case(index as i64, vertex, &longer));
         }
@@ -201,6 +213,58 @@ fn refused_paths(cases: &mut Vec<String>) {
         cases.push(draw_case(grade, needed_numbers(path, grade) + 5, path));
         cases.push(keep_case(grade, 0, path));
         cases.push(keep_case(grade, needed(path, grade) + 5, path));
+    }
+}
+
+/// Paths of radius 0 and 1, alone and with each other fault, in rooms that
+/// their outlines fit and do not fit.
+fn paths_without_edges(cases: &mut Vec<String>) {
+    let paths: [(&[i32], u32); 16] = [
+        (&[0, 0, 0], 1),
+        (&[7, -7, 1], 8),
+        (&[0, 0, 1, 20, 0, 1], 2),
+        (&[0, 0, 0, 20, 0, 0], 1),
+        (&[0, 0, 1, 1, 0, 0], 1),
+        (&[0, 0, 0, 1, 0, 1], 1),
+        (&[3, 4, 1, 3, 4, 1], 1),
+        (&[3, 4, 1, 3, 4, 0, 3, 4, 1], 1),
+        (&[-MOST, MOST, 1, MOST, -MOST, 0, 0, 0, 1], 5),
+        (&[0, 0, 1, 20, 0, 2], 1),
+        (&[0, 0, 0, 20, 0, -1], 1),
+        (&[MOST + 1, 0, 1], 1),
+        (&[0, 0, 1, 20, 0, 1], 0),
+        (&[0, 0, 1, 20, 0, 1], 9),
+        (&[0, 0, 1, 20], 1),
+        (&[0, 0, 1, MOST + 1, 0], 9),
+    ];
+    for (path, grade) in paths {
+        let length = length(path, grade);
+        for room in [0, length.saturating_sub(1), length, length + 5] {
+            cases.push(draw_case(grade, room, path));
+            cases.push(keep_case(grade, room, path));
+        }
+    }
+    let thin = [0, 0, 1].repeat(4097);
+    for path in [&thin, &thin[3..], &thin[1..]] {
+        cases.push(draw_case(1, 0, path));
+        cases.push(keep_case(1, 0, path));
+    }
+    cases.push(keep_case(1, 24 + 16 * 4096, &thin[3..]));
+    // Replacements that leave none, and one that leaves some where none were.
+    for path in [
+        &[[0, 0, 2]][..],
+        &[[0, 0, 5], [3, 4, 0]],
+        &[[0, 0, 1], [9, 0, 2], [30, 0, 0]],
+        &[[0, 0, 1], [9, 0, 1], [30, 0, 0]],
+    ] {
+        let store = kept(&flat(path), 1);
+        let longer = [store.as_slice(), &[0xEE; 300]].concat();
+        for index in 0..=path.len() as i64 {
+            for vertex in [[0, 0, 0], [9, 0, 1], [0, 0, 2], [0, 0, -1]] {
+                cases.push(replace_case(index, vertex, &store));
+                cases.push(replace_case(index, vertex, &longer));
+            }
+        }
     }
 }
 
@@ -310,7 +374,7 @@ fn refused_stores(cases: &mut Vec<String>) {
 fn changed_lengths(cases: &mut Vec<String>) {
     let small = [0, 0, 1];
     let large = [0, 0, 10];
-    let (less, more) = (needed(&small, 1), needed(&large, 1));
+    let (less, more) = (length(&small, 1), length(&large, 1));
     for extra in [
         0,
         more - less - 1,
@@ -320,14 +384,17 @@ fn changed_lengths(cases: &mut Vec<String>) {
     ] {
         let store = [kept(&small, 1), vec![0xEE; extra]].concat();
         cases.push(replace_case(0, large, &store));
+    }
+    // From a circle to two sides and two half turns: 8 edges, then 10.
+    for extra in [0, 31, 32, 33, 41] {
         let edit = Edit {
-            extra: extra as i64,
+            extra,
             at: NOWHERE,
             value: 0,
-            index: 0,
-            vertex: large,
+            index: 1,
+            vertex: [20, 0, 5],
         };
-        cases.push(edit_case(1, &edit, &small));
+        cases.push(edit_case(1, &edit, &flat(EXAMPLES[8])));
     }
     for extra in [0, 1, 9] {
         let store = [kept(&large, 1), vec![0xEE; extra]].concat();
@@ -346,7 +413,7 @@ fn changed_lengths(cases: &mut Vec<String>) {
 
 /// Small outlines with each of their bytes damaged in turn.
 fn each_byte_damaged(cases: &mut Vec<String>) {
-    for (path, value) in [(EXAMPLES[1], 128), (EXAMPLES[4], 1), (EXAMPLES[9], 255)] {
+    for (path, value) in [(EXAMPLES[1], 128), (EXAMPLES[4], 1), (EXAMPLES[3], 255)] {
         let path = flat(path);
         for at in 0..needed(&path, 1) + 2 {
             let edit = Edit {
@@ -359,12 +426,17 @@ fn each_byte_damaged(cases: &mut Vec<String>) {
             cases.push(edit_case(1, &edit, &path));
         }
     }
-    for (path, value) in [(EXAMPLES[0], 1), (EXAMPLES[0], 255), (EXAMPLES[3], 1)] {
+    for (path, value) in [
+        (EXAMPLES[0], 1),
+        (EXAMPLES[0], 255),
+        (EXAMPLES[3], 1),
+        (EXAMPLES[9], 255),
+    ] {
         let store = kept(&flat(path), 1);
-        for at in 0..store.len().min(48) {
+        for at in 0..store.len().min(56) {
             let mut store = store.clone();
             store[at] = store[at].wrapping_add(value);
-            cases.push(read_case(3, &store));
+            cases.push(read_case(6, &store));
             cases.push(replace_case(0, [0, 0, 1], &store));
         }
     }
@@ -568,6 +640,17 @@ impl Maker {
         path
     }
 
+    /// Vertices of radius 0 and 1, and mostly one that is wider.
+    fn thin(&mut self, count: usize) -> Vec<Triple> {
+        let side = self.random.pick(&[2, 30, LIMIT]);
+        let mut path: Vec<Triple> = (0..count).map(|_| self.vertex(side, 1)).collect();
+        if count > 0 && self.random.chance(60) {
+            let place = self.random.below(count as u64) as usize;
+            path[place][2] = self.random.between(2, 12) as i32;
+        }
+        path
+    }
+
     /// A path inside the limits.
     fn sound_path(&mut self) -> Vec<Triple> {
         let count = match self.random.below(100) {
@@ -579,7 +662,8 @@ impl Maker {
         } as usize;
         let style = self.random.below(100);
         let mut path: Vec<Triple> = match style {
-            0..36 => (0..count).map(|_| self.vertex(30, 12)).collect(),
+            0..28 => (0..count).map(|_| self.vertex(30, 12)).collect(),
+            28..36 => self.thin(count),
             36..40 => self.pile(count),
             40..52 => (0..count).map(|_| self.vertex(4, 3)).collect(),
             52..65 => self.run(count),
@@ -627,8 +711,8 @@ impl Maker {
 
     fn keep(&mut self) -> String {
         let (path, grade) = (self.path(), self.grade());
-        let needed = needed(&path, grade);
-        keep_case(grade, self.room(needed), &path)
+        let length = length(&path, grade);
+        keep_case(grade, self.room(length), &path)
     }
 
     /// An outline short enough to be written as a case, and its path.
@@ -636,10 +720,9 @@ impl Maker {
         loop {
             let (path, grade) = (self.sound_path(), self.random.between(1, 8) as u32);
             let grade = if self.random.chance(60) { 1 } else { grade };
-            let length = needed(&flat(&path), grade);
+            let store = kept(&flat(&path), grade);
             let most = self.random.pick(&[200, 600, 1200, 3800]);
-            if length <= most {
-                let store = kept(&flat(&path), grade);
+            if store.len() <= most {
                 return (path, grade, store);
             }
         }
@@ -722,6 +805,9 @@ impl Maker {
     /// A vertex in the place of `old`: anywhere, or `old` a little changed.
     fn replacement(&mut self, old: Option<&Triple>) -> Triple {
         let [dx, dy, radius] = self.vertex(2, 6);
+        if self.random.chance(10) {
+            return self.vertex(30, 1);
+        }
         match old {
             Some(&[x, y, r]) if self.random.chance(40) => {
                 let r = self.random.pick(&[r, r, radius, 0]);
@@ -733,12 +819,12 @@ impl Maker {
 
     /// How many bytes a replaced outline grows by, 0 if it does not.
     fn growth(&self, path: &[Triple], grade: u32, index: i64, vertex: Triple) -> usize {
-        let old = needed(&flat(path), grade);
+        let old = length(&flat(path), grade);
         let mut path = path.to_vec();
         if let Some(place) = path.get_mut(index as usize) {
             *place = vertex;
         }
-        needed(&flat(&path), grade).saturating_sub(old)
+        length(&flat(&path), grade).saturating_sub(old)
     }
 
     fn replace(&mut self) -> String {
@@ -791,7 +877,8 @@ impl Maker {
         edit_case(grade, &edit, &path)
     }
 
-    /// Small outlines with each of their bytes damaged in turn.
+    /// Small outlines with each of their bytes damaged in turn, those without
+    /// edges as lent stores, since they are no longer kept.
     fn damage_in_turn(&mut self) -> String {
         let paths = [
             READINGS[0],
@@ -802,28 +889,36 @@ impl Maker {
         ];
         let mut at = self.turn;
         self.turn += 1;
-        let lengths = paths.map(|path| needed(&flat(path), 1));
-        at %= lengths.iter().sum::<usize>();
-        let mut path = 0;
-        while at >= lengths[path] {
-            at -= lengths[path];
-            path += 1;
+        let stores = paths.map(|path| kept(&flat(path), 1));
+        at %= stores.iter().map(Vec::len).sum::<usize>();
+        let mut place = 0;
+        while at >= stores[place].len() {
+            at -= stores[place].len();
+            place += 1;
         }
+        let path = flat(paths[place]);
         let edit = Edit {
             extra: self.random.pick(&[0, 1, 200]),
             at: at as i64,
             value: self.random.between(1, 255),
-            index: self.index(paths[path].len()),
+            index: self.index(paths[place].len()),
             vertex: self.any_vertex(),
         };
-        edit_case(1, &edit, &flat(paths[path]))
+        if needed(&path, 1) > 0 {
+            return edit_case(1, &edit, &path);
+        }
+        let mut store = stores[place].clone();
+        store[at] = store[at].wrapping_add(edit.value as u8);
+        match self.random.chance(50) {
+            true => read_case(path.len(), &store),
+            false => replace_case(edit.index, edit.vertex, &store),
+        }
     }
 }
 
 #[cfg(test)]
 mod tests {
     use super::*;
-    use plain::contacts::Vertex;
 
     #[test]
     fn sound_paths_lie_inside_the_limits() {

@@ -66,12 +66,8 @@ pub fn random_path(random: &mut Random, most: u64) -> Vec<Triple> {
     path
 }
 
-/// The outline of a path, kept in a room of just its size.
+/// The sound outline of a path, as an older program kept it even where there
+/// are no edges.
 pub fn kept(path: &[Triple], grade: u32) -> Vec<u8> {
-    let numbers = numbers(path);
-    let needed = plain::calls::keep(&numbers, grade, &mut []);
-    assert_eq!(needed.reply, 5);
-    let mut room = vec![0xA5; needed.number as usize];
-    assert_eq!(plain::calls::keep(&numbers, grade, &mut room).reply, 0);
-    room
+    plain::outline::bytes(&vertices(path), grade)
 }
