@@ -60,8 +60,8 @@ fn put_held(own: &[i32], m: usize, pen: Pen, out: &mut [i32]) -> usize
     m
 }
 
-// A path's edges by way of own numbers: they hold the first steps, as many as they can, and the rest is counted; where there is room, what
-// they hold is put there and the rest is drawn.
+// A path's edges by way of own numbers: they hold the first steps, as many as they can, and the rest is counted; where there are edges and room
+// for them, what the own numbers hold is put there and the rest is drawn.
 fn draw_through(
     path: &[i32],
     n: usize,
@@ -84,6 +84,9 @@ fn draw_through(
     };
     let mut nowhere = [0i32; 0];
     let numbers = go_on(path, n, t, rest, &mut nowhere);
+    if numbers == 0 {
+        return Drawn::Refused(Refusal::WithoutEdges(n));
+    }
     if out.len() < numbers {
         return Drawn::Refused(Refusal::NoRoom(numbers / 4));
     }

@@ -2,7 +2,7 @@
 use mathlib.Core.Path.{_≡_, refl, sym, ap, _∙_}
 use mathlib.Core.Bool.{true}
 use mathlib.Core.List.{List, [], _∷_, _++_, append-assoc}
-use Prim.Native.Nat.{ℕ, zero, suc, _-_}
+use Prim.Native.Nat.{ℕ, zero, suc, _-_, _<_}
 use native.Mathlib.Nat.{le-antisymm}
 use native.Mathlib.Omega.{arith}
 use lib.ListN.{length, drop, set, replicate, length-set}
@@ -13,10 +13,11 @@ use Rattle.locality.proofs.Locality.{earlier-kept, reach-kept}
 use Rattle.outline.specs.Outlines.{outlineBytes}
 use Rattle.outline.specs.Stores.{gradeIn, countIn, lengthIn, pathIn, bodiesIn, soundOf}
 use Rattle.checking.specs.StoreRows.{editionRow, kindRow, lengthRow, soundRow, storeRows}
-use Rattle.replies.specs.Replies.{gradeRow, countRow, outsideRow, indexRow, newRow, roomRow, written}
+use Rattle.replies.specs.Replies.{gradeRow, countRow, outsideRow, indexRow, newRow, emptyRow, roomRow, written}
 use Rattle.editing.specs.Replacing.{replacedOf, replaceReply, replaceOut, ReplacedIsSound, StoreKept}
-use Rattle.paths.specs.Paths.{Within}
-use Rattle.replies.proofs.Rows.{NoneHold, first-none, either}
+use Rattle.paths.specs.Paths.{edgesOf, Within}
+use Rattle.keeping.specs.Keeping.{writeRows}
+use Rattle.replies.proofs.Rows.{NoneHold, first-none, either, empty-not}
 use Rattle.contacts.proofs.Allowed.{inside-first, outside-most}
 use Rattle.outline.proofs.ReadBack.{path-count-in, kept-is-sound}
 
@@ -31,9 +32,9 @@ outside-set (u ∷ vs) (suc k) v a h = rw (inside-first u vs h .0, firstOutside)
 -- ---- the call
 
 pub replace-none : (s : List ℕ) (k : ℕ) (v : Vertex) → replaceReply s k v .0 ≡ 0
-    → NoneHold (storeRows s ++ (indexRow (length (pathIn s)) k ∷ newRow v k ∷ roomRow (length (replacedOf s k v)) (length s) (length (replacedOf s k v)) ∷ []))
-unfolding replaceReply storeRows editionRow kindRow gradeRow countRow lengthRow outsideRow soundRow indexRow newRow roomRow
-replace-none s k v h = first-none _ _ (refl, (refl, (refl, (refl, (refl, (refl, (refl, (refl, (refl, (refl, tt)))))))))) h
+    → NoneHold (storeRows s ++ (indexRow (length (pathIn s)) k ∷ newRow v k ∷ writeRows (gradeIn s) (set (pathIn s) k v) (length s)))
+unfolding replaceReply storeRows editionRow kindRow gradeRow countRow lengthRow outsideRow soundRow indexRow newRow writeRows emptyRow roomRow
+replace-none s k v h = first-none _ _ (refl, (refl, (refl, (refl, (refl, (refl, (refl, (refl, (refl, (refl, (refl, tt))))))))))) h
 
 -- the store's own path is within the limits, and so is it with a vertex that is allowed
 pub within-store : (s : List ℕ) (k : ℕ) (v : Vertex) → replaceReply s k v .0 ≡ 0 → Within (gradeIn s) (pathIn s)
@@ -64,6 +65,11 @@ within-set s k v h = within-changed (gradeIn s) (pathIn s) k v (within-store s k
 pub sound-store : (s : List ℕ) (k : ℕ) (v : Vertex) → replaceReply s k v .0 ≡ 0 → soundOf s ≡ true
 unfolding storeRows soundRow
 sound-store s k v h = not-false _ (replace-none s k v h .1 .1 .1 .1 .1 .1 .0)
+
+-- the path with the new vertex has an edge where it has a vertex
+pub some-set : (s : List ℕ) (k : ℕ) (v : Vertex) → replaceReply s k v .0 ≡ 0 → 0 < length (set (pathIn s) k v) → 0 < length (edgesOf (gradeIn s) (set (pathIn s) k v))
+unfolding storeRows writeRows
+some-set s k v h = empty-not _ _ (replace-none s k v h .1 .1 .1 .1 .1 .1 .1 .1 .1 .0)
 
 pub out-is : (s : List ℕ) (k : ℕ) (v : Vertex) → replaceReply s k v .0 ≡ 0
     → replaceOut s k v ≡ outlineBytes (gradeIn s) (set (pathIn s) k v) ++ (replicate (lengthIn s - length (replacedOf s k v)) 0 ++ drop (length (replacedOf s k v ++ replicate (lengthIn s - length (replacedOf s k v)) 0)) s)

@@ -1,27 +1,31 @@
--- What is kept takes another vertex: it passes the rows of a store, and the three after them fail. Assumes nothing.
+-- What is kept takes another vertex: it passes the rows of a store, and the four after them fail. Assumes nothing.
 use mathlib.Core.Path.{_≡_, _∙_}
 use mathlib.Core.Bool.{true}
-use mathlib.Core.List.{[], _∷_, _++_}
-use Prim.Native.Nat.{ℕ, _≤_, _<_}
-use borrow.Author.Tests.{le-ltb, lt-leb}
+use mathlib.Core.List.{List, _∷_, _++_}
+use Prim.Native.Nat.{ℕ, _<_}
+use borrow.Author.Tests.{lt-leb}
 use lib.ListN.{length, set}
 use Rattle.contacts.specs.Limits.{allowedOf}
 use Rattle.contacts.specs.declared.Vertex.{Vertex}
+use Rattle.paths.specs.Paths.{edgesOf}
 use Rattle.outline.specs.Outlines.{outlineBytes}
 use Rattle.outline.proofs.ReadBack.{grade-back, vertices-back}
-use Rattle.replies.specs.Replies.{firstRow, indexRow, newRow, roomRow}
-use Rattle.replies.proofs.Rows.{first-skip}
+use Rattle.replies.specs.Replies.{Reply, Row, firstRow, indexRow, newRow}
+use Rattle.replies.proofs.Rows.{first-skip, empty-fails, room-enough}
+use Rattle.keeping.specs.Keeping.{writeRows}
 use Rattle.checking.specs.StoreRows.{storeRows}
 use Rattle.checking.proofs.KeptStore.{store-none}
 use Rattle.editing.specs.Replacing.{replacedOf, replaceReply, KeptIsReplaced}
 
-change-none : (n k : ℕ) (v : Vertex) (room m : ℕ) → k < n → allowedOf v ≡ true → m ≤ room → firstRow (indexRow n k ∷ newRow v k ∷ roomRow m room m ∷ []) (0, m) ≡ (0, m)
-unfolding firstRow indexRow newRow roomRow
-change-none n k v room m h a l = rw (lt-leb n k h, firstRow, a, firstRow, le-ltb room m l, firstRow)
+change-none : (n k : ℕ) (v : Vertex) (rows : List Row) (last : Reply) → k < n → allowedOf v ≡ true → firstRow (indexRow n k ∷ newRow v k ∷ rows) last ≡ firstRow rows last
+unfolding firstRow indexRow newRow
+change-none n k v rows last h a = rw (lt-leb n k h, firstRow, a, firstRow)
 
 pub kept-is-replaced : KeptIsReplaced
-unfolding replaceReply replacedOf
-kept-is-replaced g vs rest k v w h a l =
+unfolding replaceReply replacedOf writeRows
+kept-is-replaced g vs rest k v w h a e l =
     let s = outlineBytes g vs ++ rest in
+    let us = set vs k v in
+    let m = length (outlineBytes g us) in
     first-skip (storeRows s) _ _ (store-none g vs rest w)
-    ∙ rw (grade-back g vs rest w, vertices-back g vs rest w) (change-none (length vs) k v (length s) (length (outlineBytes g (set vs k v))) h a l)
+    ∙ rw (grade-back g vs rest w, vertices-back g vs rest w) (change-none (length vs) k v _ _ h a ∙ empty-fails (length us) (length (edgesOf g us)) _ (0, m) e ∙ room-enough m (length s) m (0, m) l)

@@ -21,13 +21,12 @@ use Rattle.contacts.specs.Limits.{allowedOf}
 use Rattle.paths.specs.Paths.{pathOf, vertexNumbers, pathNumbers, Within}
 use Rattle.contacts.specs.declared.Vertex.{Vertex}
 use Rattle.outline.specs.Layout.{lengthOf}
-use Rattle.outline.specs.Outlines.{outlineBytes}
-use Rattle.outline.specs.Stores.{lengthIn, pathIn}
-use Rattle.replies.specs.Replies.{firstRow, indexRow, newRow, roomRow}
+use Rattle.outline.specs.Stores.{gradeIn, lengthIn, pathIn}
+use Rattle.replies.specs.Replies.{firstRow, indexRow, newRow}
 use Rattle.checking.specs.StoreRows.{storeRows}
 use Rattle.editing.specs.Replacing.{replacedOf, replaceReply, replaceOut, replyOfReplaced, Replaces}
 use Rattle.replies.specs.Refusals.{refusalOf}
-use Rattle.keeping.specs.Keeping.{replyOfKept}
+use Rattle.keeping.specs.Keeping.{writeRows, replyOfKept}
 use Rattle.replies.specs.Checks.{Fits}
 use Rattle.keeping.specs.Rewriting.{Rewrites}
 use Rattle.editing.specs.Known.{Known}
@@ -106,7 +105,7 @@ module _ {s : List ℕ} {p : List ℤ} {g n m : ℕ} (h : Known s p g n m) where
   known-few = (omega (arith, known-count, h .within .count), omega (arith, ap length (h .path), numbers-count (pathIn s), known-count, length-take (3 * n) p), omega (arith, known-long, h .long))
 
   module _ (k : ℕ) (v : Vertex) where
-    after : replaceReply s k v ≡ firstRow (indexRow n k ∷ newRow v k ∷ roomRow (length (replacedOf s k v)) (length s) (length (replacedOf s k v)) ∷ []) (0, length (replacedOf s k v))
+    after : replaceReply s k v ≡ firstRow (indexRow n k ∷ newRow v k ∷ writeRows (gradeIn s) (set (pathIn s) k v) (length s)) (0, length (replacedOf s k v))
     unfolding replaceReply
     after = rows-append (storeRows s) _ _ ∙ h .passed _ ∙ rw known-count
 
@@ -135,10 +134,9 @@ module _ {s : List ℕ} {p : List ℤ} {g n m : ℕ} (h : Known s p g n m) where
           record { reply = r; store = refused-written (Outside k) _ s r }
 
       pub change-done : (us : List Vertex) {old : ℕ} {a : Kept} {r : Replaced} {s′ : List ℕ} → allowedOf v ≡ true → us ≡ set (pathIn s) k v → old ≡ lengthOf n m
-          → Rewrites s (outlineBytes g us) old a s′ → replyOfReplaced r ≡ replyOfKept a → Replaces s k v r s′
+          → Rewrites s g us old a s′ → replyOfReplaced r ≡ replyOfKept a → Replaces s k v r s′
       unfolding replacedOf replaceOut firstRow indexRow newRow
-      change-done us {a = a} al eu eo w e =
-          let new : outlineBytes g us ≡ replacedOf s k v = λ i. outlineBytes (h .grade i) (eu i) in
-          let w′ = rw (new, eo ∙ known-long) at w in
+      change-done us {a = a} {s′ = s′} al eu eo w e =
+          let w′ : Rewrites s (gradeIn s) (set (pathIn s) k v) (lengthIn s) a s′ = rw (h .grade, eu, eo ∙ known-long) at w in
           let f : replyOfKept a ≡ replaceReply s k v = w′ .reply ∙ sym (after ∙ rw (lt-leb n k l, firstRow, al, firstRow)) in
           record { reply = e ∙ f; store = rw f at (w′ .bytes) }

@@ -1,15 +1,17 @@
--- Document 01, "Replies, tested in this order": replace, its answer, its promise, and how far a replacement reaches.
+-- Document 01, "Replies, tested in this order": replace, its answer, its promise, and how far a replacement reaches. Its row 18 is document 02's,
+-- request 9.
 use mathlib.Core.Bool.{true}
 use mathlib.Core.List.{List, [], _∷_, _++_}
 use Prim.Native.Nat.{ℕ, _+_, _-_, _≤_, _<_}
 use lib.ListN.{length, drop, set, replicate, take}
 use Rattle.contacts.specs.Limits.{allowedOf}
 use Rattle.contacts.specs.declared.Vertex.{Vertex}
-use Rattle.paths.specs.Paths.{Within}
+use Rattle.paths.specs.Paths.{edgesOf, Within}
 use Rattle.outline.specs.Outlines.{outlineBytes}
 use Rattle.outline.specs.Stores.{gradeIn, lengthIn, pathIn, soundOf, bodiesIn}
 use mathlib.Core.Path.{_≡_}
-use Rattle.replies.specs.Replies.{Reply, firstRow, indexRow, newRow, roomRow, written}
+use Rattle.replies.specs.Replies.{Reply, firstRow, indexRow, newRow, written}
+use Rattle.keeping.specs.Keeping.{writeRows}
 use Rattle.editing.specs.declared.Replaced.{Replaced}
 use Rattle.editing.specs.declared.Replaced.the-variants as replaced
 use Rattle.locality.specs.Local.{reachOf}
@@ -23,8 +25,7 @@ replacedOf s k v = outlineBytes (gradeIn s) (set (pathIn s) k v)
 
 unfoldable pub replaceReply : List ℕ → ℕ → Vertex → Reply
 replaceReply s k v =
-    let m = length (replacedOf s k v) in
-    firstRow (storeRows s ++ (indexRow (length (pathIn s)) k ∷ newRow v k ∷ roomRow m (length s) m ∷ [])) (0, m)
+    firstRow (storeRows s ++ (indexRow (length (pathIn s)) k ∷ newRow v k ∷ writeRows (gradeIn s) (set (pathIn s) k v) (length s))) (0, length (replacedOf s k v))
 
 -- A replaced outline that shrank is followed by zeros up to its old end.
 unfoldable pub replaceOut : List ℕ → ℕ → Vertex → List ℕ
@@ -40,10 +41,11 @@ pub record Replaces (store₀ : List ℕ) (index : ℕ) (v : Vertex) (answer : R
   pub reply : replyOfReplaced answer ≡ replaceReply store₀ index v
   pub store : store₁ ≡ replaceOut store₀ index v
 
--- An outline, whatever bytes stand after it, takes any vertex within the limits in place of one of its own, where there is room for the outline with it.
+-- An outline, whatever bytes stand after it, takes any vertex within the limits in place of one of its own, where at least one edge is left and there is
+-- room for the outline with it.
 abbrev pub KeptIsReplaced : Type 0
 KeptIsReplaced = (g : ℕ) (vs : List Vertex) (rest : List ℕ) (k : ℕ) (v : Vertex) → Within g vs → k < length vs → allowedOf v ≡ true
-    → length (outlineBytes g (set vs k v)) ≤ length (outlineBytes g vs ++ rest)
+    → 0 < length (edgesOf g (set vs k v)) → length (outlineBytes g (set vs k v)) ≤ length (outlineBytes g vs ++ rest)
     → replaceReply (outlineBytes g vs ++ rest) k v ≡ (0, length (outlineBytes g (set vs k v)))
 
 -- A store in which a vertex was replaced is sound again, with the same grade and the path with that vertex.

@@ -24,7 +24,7 @@ use Rattle.replies.proofs.PathChecks.{path-refuses}
 no-zeros : (new : List ℕ) → new ++ replicate (0 - length new) 0 ≡ new
 no-zeros new = let e : 0 - length new ≡ 0 = omega arith in rw e (append-nil new)
 
-pub keeps-done : (path : List ℤ) {g n : ℕ} {out out₁ : List ℕ} {r : Kept} → Fits path g n → Rewrites out (outlineBytes g (pathOf path)) 0 r out₁ → Keeps path g out r out₁
+pub keeps-done : (path : List ℤ) {g n : ℕ} {out out₁ : List ℕ} {r : Kept} → Fits path g n → Rewrites out g (pathOf path) 0 r out₁ → Keeps path g out r out₁
 unfolding keepReply keepOut
 keeps-done path {g} {out = out} {r = r} h p =
     let new = outlineBytes g (pathOf path) in

@@ -2,7 +2,7 @@
 -- outline, whatever room it is. Assumes nothing.
 use mathlib.Core.Path.{_≡_, refl, sym, ap, _∙_}
 use mathlib.Core.List.{List, [], _∷_, _++_}
-use Prim.Native.Nat.{ℕ, _%_, _≤_}
+use Prim.Native.Nat.{ℕ, _%_, _≤_, _<_}
 use native.Mathlib.Nat.{le-antisymm}
 use native.Mathlib.Omega.{arith}
 use borrow.Author.Tests.{eqb-true, ltb-false, not-false}
@@ -10,25 +10,25 @@ use lib.IntN.{ℤ}
 use lib.ListN.{length, drop, take}
 use lib.Seq.{take-at}
 use Rattle.contacts.proofs.Allowed.{outside-most}
-use Rattle.paths.specs.Paths.{pathOf, Within}
+use Rattle.paths.specs.Paths.{pathOf, edgesOf, Within}
 use Rattle.outline.specs.Outlines.{outlineBytes}
-use Rattle.replies.specs.Replies.{Reply, triplesRow, gradeRow, countRow, outsideRow, roomRow, pathRows, written}
-use Rattle.replies.proofs.Rows.{NoneHold, first-none, either, rows-append, room-enough}
+use Rattle.replies.specs.Replies.{Reply, triplesRow, gradeRow, countRow, outsideRow, emptyRow, roomRow, pathRows, written}
+use Rattle.replies.proofs.Rows.{NoneHold, first-none, either, rows-append, empty-passes, empty-not, room-enough}
 use Rattle.replies.proofs.PathChecks.{within-fits}
-use Rattle.keeping.specs.Keeping.{keepReply, keepOut, PathIsKept, OneOutlineKept}
+use Rattle.keeping.specs.Keeping.{writeRows, keepReply, keepOut, PathIsKept, OneOutlineKept}
 
 pub path-is-kept : PathIsKept
-unfolding keepReply
-path-is-kept path g room h w l =
+unfolding keepReply writeRows
+path-is-kept path g room h w s l =
     let m = length (outlineBytes g (pathOf path)) in
-    rows-append (pathRows path g) _ _ ∙ within-fits path h w .passed _ ∙ room-enough m room m (0, m) l
+    rows-append (pathRows path g) _ _ ∙ within-fits path h w .passed _ ∙ empty-passes (length (pathOf path)) (length (edgesOf g (pathOf path))) _ (0, m) s ∙ room-enough m room m (0, m) l
 
 -- ---- after the reply 0
 
 module _ (path : List ℤ) (g room : ℕ) (h : keepReply path g room .0 ≡ 0) where
-  keep-none : NoneHold (pathRows path g ++ (roomRow (length (outlineBytes g (pathOf path))) room (length (outlineBytes g (pathOf path))) ∷ []))
-  unfolding keepReply pathRows triplesRow gradeRow countRow outsideRow roomRow
-  keep-none = first-none _ _ (refl, (refl, (refl, (refl, (refl, tt))))) h
+  keep-none : NoneHold (pathRows path g ++ writeRows g (pathOf path) room)
+  unfolding keepReply writeRows pathRows triplesRow gradeRow countRow outsideRow emptyRow roomRow
+  keep-none = first-none _ _ (refl, (refl, (refl, (refl, (refl, (refl, tt)))))) h
 
   pub keep-triples : length path % 3 ≡ 0
   unfolding pathRows triplesRow
@@ -42,8 +42,12 @@ module _ (path : List ℤ) (g room : ℕ) (h : keepReply path g room .0 ≡ 0) w
       record { low = ltb-false _ _ (e .0); high = ltb-false _ _ (e .1); count = ltb-false _ _ (r .1 .1 .0); inside = le-antisymm (outside-most (pathOf path)) (ltb-false _ _ (r .1 .1 .1 .0)) }
 
   keep-room : length (outlineBytes g (pathOf path)) ≤ room
-  unfolding pathRows roomRow
-  keep-room = ltb-false _ _ (keep-none .1 .1 .1 .1 .0)
+  unfolding pathRows writeRows roomRow
+  keep-room = ltb-false _ _ (keep-none .1 .1 .1 .1 .1 .0)
+
+  keep-some : 0 < length (pathOf path) → 0 < length (edgesOf g (pathOf path))
+  unfolding pathRows writeRows
+  keep-some = empty-not _ _ (keep-none .1 .1 .1 .1 .0)
 
 pub keep-out : (path : List ℤ) (g : ℕ) (out : List ℕ) → keepReply path g (length out) .0 ≡ 0 → keepOut path g out ≡ outlineBytes g (pathOf path) ++ drop (length (outlineBytes g (pathOf path))) out
 unfolding keepOut written
@@ -54,7 +58,7 @@ one-outline-kept path g m a b e l =
     let h : keepReply path g (length a) .0 ≡ 0 = ap (λ (r : Reply). r .0) e in
     let made = outlineBytes g (pathOf path) in
     let kept : (room : ℕ) → length made ≤ room → keepReply path g room ≡ (0, length made) =
-    λ room. path-is-kept path g room (keep-triples path g (length a) h) (keep-within path g (length a) h) in
+    λ room. path-is-kept path g room (keep-triples path g (length a) h) (keep-within path g (length a) h) (keep-some path g (length a) h) in
     let n : length made ≡ m = ap (λ (r : Reply). r .1) (sym (kept (length a) (keep-room path g (length a) h)) ∙ e) in
     let f : keepReply path g (length b) ≡ (0, m) = kept (length b) (omega arith) ∙ ap (λ (x : ℕ). (0, x)) n in (
       f,

@@ -1,5 +1,6 @@
--- An outline over lent bytes: zeros byte by byte, and the two outcomes of the room's test. Assumes nothing.
+-- An outline over lent bytes: zeros byte by byte, and what the two rows before it make of it. Assumes nothing.
 use mathlib.Core.Path.{_≡_, refl, sym, ap, _∙_}
+use mathlib.Core.Bool.{true, false}
 use mathlib.Core.List.{List, _++_}
 use Prim.Native.Nat.{ℕ, suc, _+_, _-_, _≤_, _<_}
 use native.Mathlib.Nat.{zero-add}
@@ -14,13 +15,14 @@ use Rattle.contacts.specs.declared.Vertex.{Vertex}
 use Rattle.outline.specs.Layout.{lengthOf}
 use Rattle.words.specs.Words.{fourBytes, bytesOf}
 use Rattle.outline.specs.Outlines.{outlineWords, outlineBytes}
+use Rattle.replies.specs.Replies.{emptyRow}
 use Rattle.replies.specs.Refusals.{refusalOf}
-use Rattle.keeping.specs.Keeping.{replyOfKept}
-use Rattle.keeping.specs.Rewriting.{Rewrites}
-use Rattle.replies.specs.declared.Refusal.the-variants.{NoRoom}
+use Rattle.keeping.specs.Keeping.{writeRows, replyOfKept}
+use Rattle.keeping.specs.Rewriting.{Writes, Rewrites}
+use Rattle.replies.specs.declared.Refusal.the-variants.{NoRoom, WithoutEdges}
 use Rattle.keeping.specs.declared.Kept.the-variants.{Bytes, Refused}
 use Rattle.outline.proofs.ReadBack.{outline-length}
-use Rattle.replies.proofs.Rows.{room-short, room-enough, refused-written, done-written}
+use Rattle.replies.proofs.Rows.{first-holds, empty-passes, empty-not, room-short, room-enough, refused-written, done-written}
 
 -- ---- zeros
 
@@ -42,22 +44,15 @@ pub clear-end : {s₀ s : List ℕ} {from to i : ℕ} → Cleared s₀ from to s
 unfolding over
 clear-end {to = to} {i} h l = let k : to - i ≡ 0 = omega arith in sym (h .on ∙ rw k)
 
--- ---- the two outcomes
+-- ---- written
 
 pub needed-is : (g : ℕ) (vs : List Vertex) {n m needed : ℕ} → n ≡ length vs → m ≡ length (edgesOf g vs) → needed ≡ lengthOf n m → needed ≡ length (outlineBytes g vs)
 needed-is g vs en em e = omega (arith, outline-length g vs)
 
-pub rewrite-short : (s new : List ℕ) (old : ℕ) {needed : ℕ} → needed ≡ length new → length s < needed → Rewrites s new old (Refused (NoRoom needed)) s
-unfolding replyOfKept refusalOf
-rewrite-short s new old e h = record {
-  reply = ap (λ (k : ℕ). (5, k)) e ∙ sym (room-short (length new) (length s) (length new) _ (omega arith));
-  bytes = refused-written (NoRoom _) _ s refl;
-}
-
-pub rewrite-done : (g : ℕ) (vs : List Vertex) (s : List ℕ) (old : ℕ) {s₁ s₂ : List ℕ} {end : ℕ} → Runs put fourBytes s 0 (outlineWords g vs) s₁ end
-    → s₂ ≡ over put s₁ end (replicate (old - end) 0) → length (outlineBytes g vs) ≤ length s → old ≤ length s → Rewrites s (outlineBytes g vs) old (Bytes end) s₂
-unfolding replyOfKept outlineBytes bytesOf
-rewrite-done g vs s old {s₁} {s₂} {end} p q h o =
+pub write-done : (g : ℕ) (vs : List Vertex) (s : List ℕ) (old : ℕ) {s₁ s₂ : List ℕ} {end : ℕ} → Runs put fourBytes s 0 (outlineWords g vs) s₁ end
+    → s₂ ≡ over put s₁ end (replicate (old - end) 0) → length (outlineBytes g vs) ≤ length s → old ≤ length s → Writes s (outlineBytes g vs) old end s₂
+unfolding outlineBytes bytesOf
+write-done g vs s old {s₁} {s₂} {end} p q h o =
     let new = spread fourBytes (outlineWords g vs) in
     let e : end ≡ length new = p .pos ∙ zero-add (length new) in
     let zeros = replicate {A = ℕ} (old - length new) 0 in
@@ -67,7 +62,35 @@ rewrite-done g vs s old {s₁} {s₂} {end} p q h o =
     ∙ ap (λ (k : ℕ). over put (over put s 0 new) end (replicate (old - k) 0)) e
     ∙ ap (λ (k : ℕ). over put (over put s 0 new) k zeros) (p .pos)
     ∙ over-append put s 0 new zeros in
-    record {
-      reply = ap (λ (k : ℕ). (0, k)) e ∙ sym (room-enough (length new) (length s) (length new) _ h);
-      bytes = w ∙ over-whole s (new ++ zeros) n ∙ done-written end (new ++ zeros) s refl;
-    }
+    record { long = e; bytes = w ∙ over-whole s (new ++ zeros) n ∙ done-written end (new ++ zeros) s refl }
+
+-- ---- the rows before it
+
+module _ (g : ℕ) (vs : List Vertex) (s : List ℕ) (old : ℕ) {n m : ℕ} (en : n ≡ length vs) (em : m ≡ length (edgesOf g vs)) where
+  pub rewrite-empty : emptyRow n m .0 ≡ true → Rewrites s g vs old (Refused (WithoutEdges n)) s
+  unfolding replyOfKept refusalOf writeRows emptyRow
+  rewrite-empty h =
+      let k : emptyRow (length vs) (length (edgesOf g vs)) .0 ≡ true = rw (en, em) at h in
+      record { reply = ap (λ (x : ℕ). (18, x)) en ∙ sym (first-holds _ _ _ k); bytes = refused-written (WithoutEdges n) _ s refl }
+
+  module _ (h : emptyRow n m .0 ≡ false) where
+    some : 0 < length vs → 0 < length (edgesOf g vs)
+    some = rw (en, em) at (empty-not n m h)
+
+    pub rewrite-short : {needed : ℕ} → needed ≡ length (outlineBytes g vs) → length s < needed → Rewrites s g vs old (Refused (NoRoom needed)) s
+    unfolding replyOfKept refusalOf writeRows
+    rewrite-short e l =
+        let k = length (outlineBytes g vs) in
+        record {
+          reply = ap (λ (x : ℕ). (5, x)) e ∙ sym (empty-passes (length vs) (length (edgesOf g vs)) _ (0, k) some ∙ room-short k (length s) k (0, k) (omega arith));
+          bytes = refused-written (NoRoom _) _ s refl;
+        }
+
+    pub rewrite-done : {s₁ : List ℕ} {end : ℕ} → length (outlineBytes g vs) ≤ length s → Writes s (outlineBytes g vs) old end s₁ → Rewrites s g vs old (Bytes end) s₁
+    unfolding replyOfKept writeRows
+    rewrite-done l w =
+        let k = length (outlineBytes g vs) in
+        record {
+          reply = ap (λ (x : ℕ). (0, x)) (w .long) ∙ sym (empty-passes (length vs) (length (edgesOf g vs)) _ (0, k) some ∙ room-enough k (length s) k (0, k) l);
+          bytes = w .bytes;
+        }

@@ -1,22 +1,28 @@
--- Document 01, "Replies, tested in this order": keep, its answer and its promise.
+-- Document 01, "Replies, tested in this order": keep, its answer and its promise. Its row 18 is document 02's, request 9.
 use mathlib.Core.List.{List, [], _∷_, _++_}
-use Prim.Native.Nat.{ℕ, _%_, _≤_}
+use Prim.Native.Nat.{ℕ, _%_, _≤_, _<_}
 use lib.IntN.{ℤ}
 use lib.ListN.{length, take}
-use Rattle.paths.specs.Paths.{pathOf, Within}
+use Rattle.contacts.specs.declared.Vertex.{Vertex}
+use Rattle.paths.specs.Paths.{pathOf, edgesOf, Within}
 use Rattle.outline.specs.Outlines.{outlineBytes}
 use mathlib.Core.Path.{_≡_}
-use Rattle.replies.specs.Replies.{Reply, firstRow, roomRow, pathRows, written}
+use Rattle.replies.specs.Replies.{Reply, Row, firstRow, emptyRow, roomRow, pathRows, written}
 use Rattle.keeping.specs.declared.Kept.{Kept}
 use Rattle.keeping.specs.declared.Kept.the-variants as kept
 use Rattle.replies.specs.Refusals.{refusalOf}
 
 -- ---- keep them as bytes
 
+-- 18, then 5: the rows of an outline that is to be written into so many bytes, after every row of its vertices.
+unfoldable pub writeRows : ℕ → List Vertex → ℕ → List Row
+writeRows g vs room =
+    let m = length (outlineBytes g vs) in
+    emptyRow (length vs) (length (edgesOf g vs)) ∷ roomRow m room m ∷ []
+
 unfoldable pub keepReply : List ℤ → ℕ → ℕ → Reply
 keepReply l g room =
-    let m = length (outlineBytes g (pathOf l)) in
-    firstRow (pathRows l g ++ (roomRow m room m ∷ [])) (0, m)
+    firstRow (pathRows l g ++ writeRows g (pathOf l) room) (0, length (outlineBytes g (pathOf l)))
 
 unfoldable pub keepOut : List ℤ → ℕ → List ℕ → List ℕ
 keepOut l g room = written (keepReply l g (length room)) (outlineBytes g (pathOf l)) room
@@ -29,9 +35,10 @@ pub record Keeps (path : List ℤ) (grade : ℕ) (out₀ : List ℕ) (answer : K
   pub reply : replyOfKept answer ≡ keepReply path grade (length out₀)
   pub out : out₁ ≡ keepOut path grade out₀
 
--- Numbers lent as triples, a grade, vertices within the limits and room enough are kept.
+-- Numbers lent as triples, a grade, vertices within the limits, an edge where there are vertices and room enough are kept.
 abbrev pub PathIsKept : Type 0
-PathIsKept = (path : List ℤ) (g room : ℕ) → length path % 3 ≡ 0 → Within g (pathOf path) → length (outlineBytes g (pathOf path)) ≤ room
+PathIsKept = (path : List ℤ) (g room : ℕ) → length path % 3 ≡ 0 → Within g (pathOf path) → (0 < length (pathOf path) → 0 < length (edgesOf g (pathOf path)))
+    → length (outlineBytes g (pathOf path)) ≤ room
     → keepReply path g room ≡ (0, length (outlineBytes g (pathOf path)))
 
 -- A path and grade keep to one outline: what was kept in one room is kept in any other that holds it, in the same bytes.

@@ -1,13 +1,20 @@
 -- What writing an outline over lent bytes promises.
 use mathlib.Core.Path.{_≡_}
-use mathlib.Core.List.{List, [], _∷_, _++_}
-use Prim.Native.Nat.{ℕ, _+_, _-_}
+use mathlib.Core.List.{List, _++_}
+use Prim.Native.Nat.{ℕ, _-_}
 use lib.ListN.{length, replicate}
-use Rattle.replies.specs.Replies.{firstRow, roomRow, written}
-use Rattle.keeping.specs.Keeping.{replyOfKept}
+use Rattle.contacts.specs.declared.Vertex.{Vertex}
+use Rattle.outline.specs.Outlines.{outlineBytes}
+use Rattle.replies.specs.Replies.{firstRow, written}
+use Rattle.keeping.specs.Keeping.{writeRows, replyOfKept}
 use Rattle.keeping.specs.declared.Kept.{Kept}
 
--- the outline `new` over the room s₀ in which an old one ends at `old`: the row of the room replies, and after 0 zeros follow up to the old end
-pub record Rewrites (s₀ new : List ℕ) (old : ℕ) (answer : Kept) (s₁ : List ℕ) : Type 0 where
-  pub reply : replyOfKept answer ≡ firstRow (roomRow (length new) (length s₀) (length new) ∷ []) (0, length new)
-  pub bytes : s₁ ≡ written (replyOfKept answer) (new ++ replicate (old - length new) 0) s₀
+-- the outline `new` over the bytes s₀ in which an old one ends at `old`: it ends at `end`, zeros follow up to the old end, and the rest stays
+pub record Writes (s₀ new : List ℕ) (old end : ℕ) (s₁ : List ℕ) : Type 0 where
+  pub long : end ≡ length new
+  pub bytes : s₁ ≡ written (0, end) (new ++ replicate (old - length new) 0) s₀
+
+-- the outline of a path of its grade, once its rows are passed: the row of a path without edges and that of the room reply, and after 0 it is written
+pub record Rewrites (s₀ : List ℕ) (g : ℕ) (vs : List Vertex) (old : ℕ) (answer : Kept) (s₁ : List ℕ) : Type 0 where
+  pub reply : replyOfKept answer ≡ firstRow (writeRows g vs (length s₀)) (0, length (outlineBytes g vs))
+  pub bytes : s₁ ≡ written (replyOfKept answer) (outlineBytes g vs ++ replicate (old - length (outlineBytes g vs)) 0) s₀

@@ -1,19 +1,20 @@
-// The outline of a path written into lent bytes: counted, held against the room, filled in, with zeros up to an old end.
+// The outline of a path written into lent bytes: counted, held against its rows, filled in, with zeros up to an old end.
 use crate::Kept;
 use crate::filling::outline;
 use outline::layout::whole_length;
 use paths::paths::walk;
 use plane::direction::step;
 use replies::Refusal;
+use replies::path_rows::without_edges;
 use words::put_byte;
 ghost use mathlib.Core.Path.{_≡_};
 ghost use Prim.Native.Nat.{_-_, _≤_};
 ghost use lib.ListN.{length, replicate};
 ghost use Rattle.runs.specs.Runs.{over, put};
-ghost use Rattle.paths.specs.Paths.{pathOf, edgesOf};
+ghost use Rattle.paths.specs.Paths.{pathOf, edgesOf, Within};
 ghost use Rattle.outline.specs.Outlines.{outlineBytes};
 ghost use Rattle.replies.specs.Checks.{Fits};
-ghost use Rattle.keeping.specs.Rewriting.{Rewrites};
+ghost use Rattle.keeping.specs.Rewriting.{Writes, Rewrites};
 
 // Zeros from one place up to another, where that lies further on.
 fn clear(s: &mut [u8], from: usize, to: usize)
@@ -27,15 +28,35 @@ fn clear(s: &mut [u8], from: usize, to: usize)
 }
 
 // How many edges a path has: the walk over a few numbers of scratch counts.
-fn count(path: &[i32], n: usize, grade: u32) -> usize
-    requires { ⌜ Fits (now path) grade n ⌝ }
+pub fn count(path: &[i32], n: usize, grade: u32) -> usize
+    requires { ⌜ (n ≡ length (pathOf (now path))) × Within grade (pathOf (now path)) ⌝ }
     ensures { λ m. ⌜ m ≡ length (edgesOf grade (pathOf (now (path .entry)))) ⌝ }
 {
     let mut scratch = [0i32; 4];
     walk(path, n, step(grade), &mut scratch) / 4
 }
 
-// The outline of a path over lent bytes in which an old one ends at `old`.
+// The outline of a path of m edges, none too, over lent bytes that hold it and in which an old one ends at `old`.
+pub fn write(
+    path: &[i32],
+    n: usize,
+    m: usize,
+    grade: u32,
+    old: usize,
+    own: &mut [i32],
+    s: &mut [u8],
+) -> usize
+    requires { ⌜ (n ≡ length (pathOf (now path))) × Within grade (pathOf (now path)) × (36908 ≤ length (now own)) ⌝ }
+    requires { ⌜ (m ≡ length (edgesOf grade (pathOf (now path)))) × (length (outlineBytes grade (pathOf (now path))) ≤ length (now s)) × (old ≤ length (now s)) ⌝ }
+    ensures { λ r. ⌜ Writes (now (s .entry)) (outlineBytes grade (pathOf (now (path .entry)))) old r (now (s .exit)) ⌝ }
+{
+    let end = outline(path, n, m, grade, own, s);
+    clear(s, end, old);
+    end
+}
+
+// The outline of a path that passed its rows, over lent bytes in which an old one ends at `old`, where it has edges and there is room: what keep
+// and replace share.
 pub fn rewrite(
     path: &[i32],
     n: usize,
@@ -45,14 +66,16 @@ pub fn rewrite(
     s: &mut [u8],
 ) -> Kept
     requires { ⌜ Fits (now path) grade n × (old ≤ length (now s)) × (36908 ≤ length (now own)) ⌝ }
-    ensures { λ r. ⌜ Rewrites (now (s .entry)) (outlineBytes grade (pathOf (now (path .entry)))) old r (now (s .exit)) ⌝ }
+    ensures { λ r. ⌜ Rewrites (now (s .entry)) grade (pathOf (now (path .entry))) old r (now (s .exit)) ⌝ }
 {
     let m = count(path, n, grade);
     let needed = whole_length(n, m);
+    let empty = without_edges(n, m);
+    if empty {
+        return Kept::Refused(Refusal::WithoutEdges(n));
+    }
     if s.len() < needed {
         return Kept::Refused(Refusal::NoRoom(needed));
     }
-    let end = outline(path, n, m, grade, own, s);
-    clear(s, end, old);
-    Kept::Bytes(end)
+    Kept::Bytes(write(path, n, m, grade, old, own, s))
 }

@@ -91,20 +91,20 @@ within-fits path {g} h w =
     let e : firstOutside (pathOf path) ≡ length path / 3 = w .inside ∙ path-count path in
     passes path g h (w .low) (w .high) (omega (arith, path-count path, w .count)) {i = firstOutside (pathOf path)} refl (omega arith) .fits _ refl
 
--- ---- drawing a path that passed
+-- ---- drawing a path within the limits
 
 -- the walk's edges are those of the rules
 pub walk-edges : (g : ℕ) (vs : List Vertex) {t : Vector} → t ≡ stepOf g → joined (bodiesAt t vs) ≡ edgesOf g vs
 unfolding edgesOf bodiesOf
 walk-edges g vs e = rw e
 
-pub walk-room : (path : List ℤ) {g n : ℕ} {t : Vector} → Fits path g n → t ≡ stepOf g → Room edgeNumbers 0 (joined (bodiesAt t (pathOf path)))
+pub walk-room : (path : List ℤ) {g : ℕ} {t : Vector} → Within g (pathOf path) → t ≡ stepOf g → Room edgeNumbers 0 (joined (bodiesAt t (pathOf path)))
 walk-room path {g} h e =
     let es = edgesOf g (pathOf path) in
-    rw (walk-edges g (pathOf path) e) (record { fits = omega (arith, edges-four es, edges-most g (pathOf path), h .within .count) })
+    rw (walk-edges g (pathOf path) e) (record { fits = omega (arith, edges-four es, edges-most g (pathOf path), h .count) })
 
 -- w is the position that the walk came to
-module _ (path : List ℤ) {g n w : ℕ} {t : Vector} {l l₁ : List ℤ} (h : Fits path g n) (e : t ≡ stepOf g)
+module _ (path : List ℤ) (g : ℕ) {w : ℕ} {t : Vector} {l l₁ : List ℤ} (e : t ≡ stepOf g)
     (p : Runs put edgeNumbers l 0 (joined (bodiesAt t (pathOf path))) l₁ w) where
   pub numbers-walked : w ≡ 4 * length (edgesOf g (pathOf path))
   numbers-walked = omega (arith, p .pos, edges-four (edgesOf g (pathOf path)), ap (λ (es : List Edge). length (spread edgeNumbers es)) (walk-edges g (pathOf path) e))

@@ -2,7 +2,7 @@
 use mathlib.Core.Path.{_≡_, refl, sym, ap, _∙_}
 use mathlib.Core.Bool.{Bool, true, false, true≢false, _&&_, _||_}
 use mathlib.Core.List.{List, [], _∷_, _++_}
-use Prim.Native.Nat.{ℕ, _+_, _≤_, _<_}
+use Prim.Native.Nat.{ℕ, zero, suc, _+_, _≤_, _<_}
 use native.Mathlib.Omega.{arith}
 use lib.ListN.{length, drop}
 use borrow.Author.Tests.{le-ltb, lt-ltb, eq-eqb, ne-eqb}
@@ -16,6 +16,11 @@ use Rattle.replies.specs.declared.Refusal.the-variants.{Uneven, TooMany,
 abbrev pub NoneHold : List Row → Type 0
 NoneHold [] = Unit {0}
 NoneHold (row ∷ rows) = (row .0 ≡ false) × NoneHold rows
+
+-- a row that holds replies
+pub first-holds : (row : Row) (rows : List Row) (last : Reply) → row .0 ≡ true → firstRow (row ∷ rows) last ≡ row .1
+unfolding firstRow
+first-holds row rows last h = rw (h, firstRow)
 
 pub first-skip : (rows more : List Row) (last : Reply) → NoneHold rows → firstRow (rows ++ more) last ≡ firstRow more last
 unfolding firstRow
@@ -50,6 +55,16 @@ empty-fails n m rows last h = rw (ne-eqb m 0 (λ e. omega (arith, h, e)), and-fa
 pub no-vertices : (m : ℕ) (rows : List Row) (last : Reply) → firstRow (emptyRow 0 m ∷ rows) last ≡ firstRow rows last
 unfolding firstRow emptyRow
 no-vertices m rows last = refl
+
+-- with one vertex or more there is an edge: the row fails, and a row that failed says so
+pub empty-passes : (n m : ℕ) (rows : List Row) (last : Reply) → (0 < n → 0 < m) → firstRow (emptyRow n m ∷ rows) last ≡ firstRow rows last
+empty-passes zero m rows last h = no-vertices m rows last
+empty-passes (suc n) m rows last h = empty-fails (suc n) m rows last (h (omega arith))
+
+pub empty-not : (n m : ℕ) → emptyRow n m .0 ≡ false → 0 < n → 0 < m
+unfolding emptyRow
+empty-not n zero e h = absurd (true≢false (sym (rw (lt-ltb 0 n h)) ∙ e))
+empty-not n (suc m) e h = omega arith
 
 -- the row of the room lent
 pub room-short : (needed room number : ℕ) (last : Reply) → room < needed → firstRow (roomRow needed room number ∷ []) last ≡ (5, number)

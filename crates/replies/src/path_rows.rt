@@ -1,6 +1,8 @@
-// The rows that draw and keep share: is this a path, at a grade, within the limits?
+// The rows that calls share: is this a path, at a grade, within the limits, and has it edges?
 use crate::Refusal;
 use paths::paths::first_outside;
+ghost use mathlib.Core.Path.{_≡_};
+ghost use Rattle.replies.specs.Replies.{emptyRow};
 ghost use Rattle.replies.specs.Checks.{PathSays};
 
 // What the rows of a path came to: how many vertices it has, or why it is refused.
@@ -32,4 +34,11 @@ pub fn check_path(path: &[i32], grade: u32) -> PathCheck
         return PathCheck::Refused(Refusal::Outside(bad));
     }
     PathCheck::Passed(n)
+}
+
+// Whether a path of n vertices and m edges is one of vertices without edges: document 02, request 9.
+pub fn without_edges(n: usize, m: usize) -> bool
+    ensures { λ r. ⌜ r ≡ emptyRow n m .0 ⌝ }
+{
+    0 < n && m == 0
 }

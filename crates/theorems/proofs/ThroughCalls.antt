@@ -27,7 +27,7 @@ use Rattle.replies.proofs.Rows.{none-last}
 use Rattle.keeping.proofs.PathKept.{path-is-kept, keep-triples, keep-within, keep-out}
 use Rattle.reading.proofs.KeptRead.{kept-is-read}
 use Rattle.outline.proofs.ReadBack.{numbers-count}
-use Rattle.editing.proofs.Changed.{replace-none, within-store, within-set, sound-store, out-is, replaced-is-sound, store-kept}
+use Rattle.editing.proofs.Changed.{replace-none, within-store, within-set, some-set, sound-store, out-is, replaced-is-sound, store-kept}
 use Rattle.checking.proofs.Shown.{path-back}
 use Rattle.checking.proofs.FirstByte.{same-is}
 use Rattle.outline.proofs.BodiesInBytes.{body-bytes}
@@ -107,7 +107,7 @@ replaced-is-kept s k v room m z h e l =
     let b : outlineBytes g (pathOf path) ≡ new = rw p in
     let q : length path % 3 ≡ 0 = omega (arith, numbers-count vs) in
     let kr : keepReply path g (length room) ≡ (0, m) =
-    path-is-kept path g (length room) q (rw p (within-set s k v h₀)) (omega (arith, ap length b)) ∙ ap (λ (x : ℕ). (0, x)) (ap length b ∙ n) in
+    path-is-kept path g (length room) q (rw p (within-set s k v h₀)) (rw p (some-set s k v h₀)) (omega (arith, ap length b)) ∙ ap (λ (x : ℕ). (0, x)) (ap length b ∙ n) in
     let ko : keepOut path g room ≡ new ++ drop (length new) room = rw b at (keep-out path g room (ap (λ (r : Reply). r .0) kr)) in
     let ro : replaceOut s k v ≡ new ++ (zeros ++ drop (length (new ++ zeros)) s) = rw (e, ← n) (out-is s k v h₀) in
     let t : length (new ++ zeros) ≡ m + z = omega (arith, length-append new zeros, length-replicate {A = ℕ} z 0) in (

@@ -10,6 +10,7 @@ use Rattle.turning.specs.declared.Edge.{Edge}
 use Rattle.paths.specs.Paths.{pathOf, bodiesOf, edgesOf}
 use Rattle.outline.specs.Outlines.{outlineWords, outlineBytes}
 use Rattle.drawing.specs.Drawing.{drawReply}
+use Rattle.reading.specs.Reading.{readReply}
 
 -- A row: what is asked of a path, the path, three numbers a vertex, and the answer.
 pub record Example : Type 0 where
@@ -25,7 +26,8 @@ plain [] = []
 plain (n ∷ ns) = pos n ∷ plain ns
 
 -- What may be asked at a grade: how many bytes an outline has, its words, the number of edges in each body and in the closing one, all edges in
--- order, and the reply of draw without room.
+-- order, and the reply of draw without room. Paths without edges, which draw and keep refuse (document 02, request 9), still read: the reply of reading
+-- the path's outline into room for three vertices.
 unfoldable pub bytes : ℕ → List ℤ → List ℤ
 bytes g l = pos (length (outlineBytes g (pathOf l))) ∷ []
 
@@ -45,14 +47,21 @@ edges g l = spread edgeNumbers (edgesOf g (pathOf l))
 unfoldable pub reply : ℕ → List ℤ → List ℤ
 reply g l = pos (drawReply l g 0 .0) ∷ pos (drawReply l g 0 .1) ∷ []
 
+unfoldable pub reading : ℕ → List ℤ → List ℤ
+reading g l = pos (readReply (outlineBytes g (pathOf l)) 9 .0) ∷ pos (readReply (outlineBytes g (pathOf l)) 9 .1) ∷ []
+
 unfoldable pub examples : List Example
 examples =
     record { asked = bytes 1; path = []; answer = pos 24 ∷ [] }  -- 1
     ∷ record { asked = edges 1; path = []; answer = [] }  -- 1
+    ∷ record { asked = reply 1; path = []; answer = pos 0 ∷ pos 0 ∷ [] }  -- 1
+    ∷ record { asked = reading 1; path = []; answer = pos 0 ∷ pos 0 ∷ [] }  -- 1
     ∷ record { asked = words 1; path = pos 0 ∷ pos 0 ∷ pos 10 ∷ []; answer = pos 1 ∷ pos 0 ∷ pos 1 ∷ pos 1 ∷ pos 8 ∷ pos 0 ∷ pos 0 ∷ pos 10 ∷ pos 0 ∷ pos 8 ∷ pos 10 ∷ pos 0 ∷ pos 6 ∷ pos 8 ∷ pos 6 ∷ pos 8 ∷ pos 4294967293 ∷ pos 10 ∷ pos 4294967293 ∷ pos 10 ∷ pos 4294967287 ∷ pos 4 ∷ pos 4294967287 ∷ pos 4 ∷ pos 4294967286 ∷ pos 0 ∷ pos 4294967286 ∷ pos 0 ∷ pos 4294967290 ∷ pos 4294967288 ∷ pos 4294967290 ∷ pos 4294967288 ∷ pos 3 ∷ pos 4294967286 ∷ pos 3 ∷ pos 4294967286 ∷ pos 9 ∷ pos 4294967292 ∷ pos 9 ∷ pos 4294967292 ∷ pos 10 ∷ pos 0 ∷ [] }  -- 2
     ∷ record { asked = edges 1; path = pos 0 ∷ pos 0 ∷ pos 10 ∷ []; answer = pos 10 ∷ pos 0 ∷ pos 6 ∷ pos 8 ∷ pos 6 ∷ pos 8 ∷ minus 3 ∷ pos 10 ∷ minus 3 ∷ pos 10 ∷ minus 9 ∷ pos 4 ∷ minus 9 ∷ pos 4 ∷ minus 10 ∷ pos 0 ∷ minus 10 ∷ pos 0 ∷ minus 6 ∷ minus 8 ∷ minus 6 ∷ minus 8 ∷ pos 3 ∷ minus 10 ∷ pos 3 ∷ minus 10 ∷ pos 9 ∷ minus 4 ∷ pos 9 ∷ minus 4 ∷ pos 10 ∷ pos 0 ∷ [] }  -- 2
     ∷ record { asked = bytes 1; path = pos 0 ∷ pos 0 ∷ pos 10 ∷ []; answer = pos 168 ∷ [] }  -- 2
     ∷ record { asked = counts 1; path = pos 0 ∷ pos 0 ∷ pos 1 ∷ []; answer = pos 0 ∷ pos 0 ∷ [] }  -- 3
+    ∷ record { asked = reading 1; path = pos 0 ∷ pos 0 ∷ pos 1 ∷ []; answer = pos 0 ∷ pos 1 ∷ [] }  -- 3
+    ∷ record { asked = reply 1; path = pos 0 ∷ pos 0 ∷ pos 1 ∷ []; answer = pos 18 ∷ pos 1 ∷ [] }  -- 3
     ∷ record { asked = counts 1; path = pos 0 ∷ pos 0 ∷ pos 2 ∷ []; answer = pos 0 ∷ pos 8 ∷ [] }  -- 4
     ∷ record { asked = counts 1; path = pos 0 ∷ pos 0 ∷ pos 5 ∷ pos 20 ∷ pos 0 ∷ pos 5 ∷ []; answer = pos 0 ∷ pos 6 ∷ pos 4 ∷ [] }  -- 5
     ∷ record { asked = edges 1; path = pos 0 ∷ pos 0 ∷ pos 5 ∷ pos 20 ∷ pos 0 ∷ pos 5 ∷ []; answer = pos 20 ∷ pos 5 ∷ pos 0 ∷ pos 5 ∷ pos 0 ∷ minus 5 ∷ pos 20 ∷ minus 5 ∷ pos 0 ∷ pos 5 ∷ minus 4 ∷ pos 3 ∷ minus 4 ∷ pos 3 ∷ minus 5 ∷ minus 1 ∷ minus 5 ∷ minus 1 ∷ minus 2 ∷ minus 5 ∷ minus 2 ∷ minus 5 ∷ pos 0 ∷ minus 5 ∷ pos 20 ∷ minus 5 ∷ pos 24 ∷ minus 3 ∷ pos 24 ∷ minus 3 ∷ pos 25 ∷ pos 1 ∷ pos 25 ∷ pos 1 ∷ pos 22 ∷ pos 5 ∷ pos 22 ∷ pos 5 ∷ pos 20 ∷ pos 5 ∷ [] }  -- 5
@@ -61,7 +70,9 @@ examples =
     ∷ record { asked = counts 1; path = pos 0 ∷ pos 0 ∷ pos 10 ∷ pos 3 ∷ pos 0 ∷ pos 2 ∷ []; answer = pos 0 ∷ pos 8 ∷ pos 8 ∷ [] }  -- 8
     ∷ record { asked = counts 1; path = pos 0 ∷ pos 0 ∷ pos 5 ∷ pos 3 ∷ pos 4 ∷ pos 0 ∷ []; answer = pos 0 ∷ pos 8 ∷ pos 0 ∷ [] }  -- 9
     ∷ record { asked = counts 1; path = pos 0 ∷ pos 0 ∷ pos 1 ∷ pos 20 ∷ pos 0 ∷ pos 1 ∷ []; answer = pos 0 ∷ pos 0 ∷ pos 0 ∷ [] }  -- 10
-    ∷ record { asked = reply 1; path = pos 268435456 ∷ pos 0 ∷ pos 1 ∷ []; answer = pos 0 ∷ pos 0 ∷ [] }  -- 11
+    ∷ record { asked = reading 1; path = pos 0 ∷ pos 0 ∷ pos 1 ∷ pos 20 ∷ pos 0 ∷ pos 1 ∷ []; answer = pos 0 ∷ pos 2 ∷ [] }  -- 10
+    ∷ record { asked = reply 1; path = pos 0 ∷ pos 0 ∷ pos 1 ∷ pos 20 ∷ pos 0 ∷ pos 1 ∷ []; answer = pos 18 ∷ pos 2 ∷ [] }  -- 10
+    ∷ record { asked = reading 1; path = pos 268435456 ∷ pos 0 ∷ pos 1 ∷ []; answer = pos 0 ∷ pos 1 ∷ [] }  -- 11
     ∷ record { asked = reply 1; path = pos 268435457 ∷ pos 0 ∷ pos 1 ∷ []; answer = pos 4 ∷ pos 0 ∷ [] }  -- 11
     ∷ []
 

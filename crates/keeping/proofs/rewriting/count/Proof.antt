@@ -12,10 +12,10 @@ slice-aggregate-walk : tie.Need-slice-aggregate-walk
 slice-aggregate-walk c = search needs
 
 walk-requires : tie.Need-walk-requires
-walk-requires c κs = ((c .before .before .pre .count, c .before .before .pre .within .inside, step-unit _ (c .before .step .ensures)), walk-room _ (c .before .before .pre) (c .before .step .ensures))
+walk-requires c κs = ((c .before .before .pre .0, c .before .before .pre .1 .inside, step-unit _ (c .before .step .ensures)), walk-room _ (c .before .before .pre .1) (c .before .step .ensures))
 
 returns : tie.Need-returns
-returns c = count-of _ (c .before .before .before .before .pre) (c .before .before .before .step .ensures) (c .before .walk .ensures)
+returns c = count-of _ _ (c .before .before .before .step .ensures) (c .before .walk .ensures)
 
 pub count-spec : {M : Type 1} → statement M
 count-spec = tie.close (tie.spec step-requires slice-aggregate-walk walk-requires returns)
