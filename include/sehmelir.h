@@ -90,17 +90,18 @@ extern "C" {
 
 /* The replies, by number. Each call below says in which order it tests them. */
 enum sehmelir_reply_number {
-    SEHMELIR_DONE = 0,        /* done */
-    SEHMELIR_NOT_TRIPLES = 1, /* the numbers lent are no multiple of three */
-    SEHMELIR_TOO_MANY = 2,    /* above 4,096 vertices */
-    SEHMELIR_GRADE = 3,       /* the grade is not 1 to 8 */
-    SEHMELIR_OUTSIDE = 4,     /* a vertex lies outside the limits */
-    SEHMELIR_NO_ROOM = 5,     /* the result is longer than the room lent */
-    SEHMELIR_NOT_OUTLINE = 6, /* the store is too short, or not of edition 1 */
-    SEHMELIR_KIND = 7,        /* the outline's kind is not 0 */
-    SEHMELIR_NOT_SOUND = 8,   /* the outline is not sound */
-    SEHMELIR_NO_VERTEX = 9,   /* the outline has no vertex of that index */
-    SEHMELIR_NOT_TAKEN = 13   /* a number of the oldest chunks is not taken */
+    SEHMELIR_DONE = 0,          /* done */
+    SEHMELIR_UNEVEN = 1,        /* the numbers lent are no multiple of three */
+    SEHMELIR_TOO_MANY = 2,      /* above 4,096 vertices */
+    SEHMELIR_GRADE = 3,         /* the grade is not 1 to 8 */
+    SEHMELIR_OUTSIDE = 4,       /* a vertex lies outside the limits */
+    SEHMELIR_NO_ROOM = 5,       /* the result is longer than the room lent */
+    SEHMELIR_NOT_OUTLINE = 6,   /* the store is too short, or not of edition 1 */
+    SEHMELIR_KIND = 7,          /* the outline's kind is not 0 */
+    SEHMELIR_NOT_SOUND = 8,     /* the outline is not sound */
+    SEHMELIR_NO_VERTEX = 9,     /* the outline has no vertex of that index */
+    SEHMELIR_NOT_TAKEN = 13,    /* a number of the oldest chunks is not taken */
+    SEHMELIR_WITHOUT_EDGES = 18 /* the path has vertices and no edges */
 };
 
 /* What a call answers. */
@@ -115,7 +116,7 @@ struct sehmelir_reply {
  *
  * The first of these that applies is the reply:
  *
- *     1 SEHMELIR_NOT_TRIPLES  path_len is not a multiple of three
+ *     1 SEHMELIR_UNEVEN       path_len is not a multiple of three
  *                             number: path_len
  *     3 SEHMELIR_GRADE        the grade is not 1 to 8
  *                             number: the grade
@@ -123,6 +124,10 @@ struct sehmelir_reply {
  *                             number: the vertices
  *     4 SEHMELIR_OUTSIDE      a vertex lies outside the limits
  *                             number: the index of the first such vertex
+ *    18 SEHMELIR_WITHOUT_EDGES
+ *                             there is a vertex, and no edge: so it is where
+ *                             every radius is 0 or 1
+ *                             number: the vertices
  *     5 SEHMELIR_NO_ROOM      out_len is below four times the edges
  *                             number: the edges that there are
  *     0 SEHMELIR_DONE         the edges stand in `out`, four numbers each
@@ -139,7 +144,7 @@ struct sehmelir_reply sehmelir_draw(const int32_t *path, size_t path_len,
  *
  * The first of these that applies is the reply:
  *
- *     1 SEHMELIR_NOT_TRIPLES  path_len is not a multiple of three
+ *     1 SEHMELIR_UNEVEN       path_len is not a multiple of three
  *                             number: path_len
  *     3 SEHMELIR_GRADE        the grade is not 1 to 8
  *                             number: the grade
@@ -147,6 +152,10 @@ struct sehmelir_reply sehmelir_draw(const int32_t *path, size_t path_len,
  *                             number: the vertices
  *     4 SEHMELIR_OUTSIDE      a vertex lies outside the limits
  *                             number: the index of the first such vertex
+ *    18 SEHMELIR_WITHOUT_EDGES
+ *                             there is a vertex, and no edge: so it is where
+ *                             every radius is 0 or 1
+ *                             number: the vertices
  *     5 SEHMELIR_NO_ROOM      out_len is below the outline's bytes
  *                             number: the bytes needed
  *     0 SEHMELIR_DONE         the outline stands in `out`
@@ -159,7 +168,8 @@ struct sehmelir_reply sehmelir_keep(const int32_t *path, size_t path_len,
                                     size_t out_len);
 
 /*
- * Reads the path of a sound outline into `out`, and its grade.
+ * Reads the path of a sound outline into `out`, and its grade. An outline
+ * without edges, as they were kept once, still reads.
  *
  * The first of these that applies is the reply:
  *
@@ -221,6 +231,9 @@ struct sehmelir_reply sehmelir_read(const uint8_t *store, size_t store_len,
  *                             number: the index
  *     4 SEHMELIR_OUTSIDE      the new vertex lies outside the limits
  *                             number: the index
+ *    18 SEHMELIR_WITHOUT_EDGES
+ *                             the changed path has no edge
+ *                             number: its vertices
  *     5 SEHMELIR_NO_ROOM      store_len is below the new outline's bytes
  *                             number: the bytes needed
  *     0 SEHMELIR_DONE         the new outline stands in the store
@@ -304,7 +317,7 @@ struct sehmelir_taken sehmelir_take_width(float value);
  *
  * The first of these that applies is the reply:
  *
- *     1 SEHMELIR_NOT_TRIPLES  numbers_len is not a multiple of three
+ *     1 SEHMELIR_UNEVEN       numbers_len is not a multiple of three
  *                             number: numbers_len
  *     2 SEHMELIR_TOO_MANY     there are above 4,096 vertices
  *                             number: the vertices
@@ -328,7 +341,7 @@ struct sehmelir_reply sehmelir_import(const float *numbers, size_t numbers_len,
  *
  * The first of these that applies is the reply:
  *
- *     1 SEHMELIR_NOT_TRIPLES  path_len is not a multiple of three
+ *     1 SEHMELIR_UNEVEN       path_len is not a multiple of three
  *                             number: path_len
  *     2 SEHMELIR_TOO_MANY     there are above 4,096 vertices
  *                             number: the vertices

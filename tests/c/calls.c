@@ -22,6 +22,9 @@ enum {
 
 static const int32_t path[PATH] = {0, 0, 5, 20, 0, 5};
 
+/* a path without edges */
+static const int32_t thin[PATH] = {0, 0, 1, 20, 0, 1};
+
 static const int32_t edges[EDGES][4] = {
     {20, 5, 0, 5},    {0, -5, 20, -5}, {0, 5, -4, 3},    {-4, 3, -5, -1},
     {-5, -1, -2, -5}, {-2, -5, 0, -5}, {20, -5, 24, -3}, {24, -3, 25, 1},
@@ -98,7 +101,7 @@ static void check_draw(void) {
     check_reply(sehmelir_draw(path, PATH, 1, out.lent, NUMBERS - 1),
                 SEHMELIR_NO_ROOM, EDGES, 0, "draw is refused one number short");
     check_reply(sehmelir_draw(path, PATH - 1, 1, out.lent, NUMBERS),
-                SEHMELIR_NOT_TRIPLES, PATH - 1, 0, "draw of five numbers");
+                SEHMELIR_UNEVEN, PATH - 1, 0, "draw of five numbers");
     check_reply(sehmelir_draw(path, PATH, 9, out.lent, NUMBERS), SEHMELIR_GRADE,
                 9, 0, "draw at grade 9");
     static const int32_t many[3 * (SEHMELIR_MOST_VERTICES + 1)];
@@ -108,6 +111,8 @@ static void check_draw(void) {
         0, 0, 5, SEHMELIR_MOST_COORDINATE + 1, 0, 5};
     check_reply(sehmelir_draw(outside, PATH, 1, out.lent, NUMBERS),
                 SEHMELIR_OUTSIDE, 1, 0, "draw of a vertex outside the limits");
+    check_reply(sehmelir_draw(thin, PATH, 1, out.lent, NUMBERS),
+                SEHMELIR_WITHOUT_EDGES, 2, 0, "draw of a path without edges");
     check(memcmp(&out, &expected, sizeof out) == 0,
           "draw's refusals change nothing");
 
@@ -135,6 +140,10 @@ static void check_keep(void) {
                 SEHMELIR_NO_ROOM, OUTLINE, 0, "keep is refused one byte short");
     check_reply(sehmelir_keep(path, PATH, 0, out.lent, OUTLINE), SEHMELIR_GRADE,
                 0, 0, "keep at grade 0");
+    check_reply(sehmelir_keep(thin, PATH, 1, out.lent, POINTS),
+                SEHMELIR_WITHOUT_EDGES, 2, 0, "keep of a path without edges");
+    check_reply(sehmelir_keep(thin, PATH, 1, out.lent, POINTS - 1),
+                SEHMELIR_WITHOUT_EDGES, 2, 0, "  whose outline had no room");
     check(memcmp(&out, &expected, sizeof out) == 0,
           "keep's refusals change nothing");
 
@@ -188,17 +197,30 @@ static void check_replace(void) {
           "replace's refusals change nothing");
 
     static const int32_t narrow_start[PATH] = {0, 0, 1, 20, 0, 5};
+    uint64_t narrow = bytes_of(narrow_start);
     check_reply(sehmelir_replace(store.lent, whole, 0, 0, 0, 1), SEHMELIR_DONE,
-                bytes_of(narrow_start), 0, "replace by a smaller radius");
-    check_reply(sehmelir_replace(store.lent, whole, 1, 20, 0, 1), SEHMELIR_DONE,
-                POINTS, 0, "replace that leaves no edges");
-    static const int32_t points[14] = {1, 0, 1,  2, 0, 0, 0,
-                                       1, 0, 20, 0, 1, 0, 0};
-    for (int index = 0; index < 14; index++)
-        put_word(expected.lent + 4 * index, points[index]);
-    memset(expected.lent + POINTS, 0, OUTLINE - POINTS);
+                narrow, 0, "replace by a smaller radius");
+    check_reply(sehmelir_keep(narrow_start, PATH, 1, expected.lent, whole),
+                SEHMELIR_DONE, narrow, 0, "keep of the changed path");
+    memset(expected.lent + narrow, 0, OUTLINE - narrow);
     check(memcmp(&store, &expected, sizeof store) == 0,
           "zeros follow up to the old end, and no farther");
+    check_reply(sehmelir_replace(store.lent, whole, 1, 20, 0, 1),
+                SEHMELIR_WITHOUT_EDGES, 2, 0, "replace that leaves no edges");
+    check(memcmp(&store, &expected, sizeof store) == 0,
+          "that refusal changes nothing");
+
+    /* an outline without edges, as they were kept once */
+    static const int32_t points[14] = {1, 0, 1,  2, 0, 0, 0,
+                                       1, 0, 20, 0, 1, 0, 0};
+    for (int index = 0; index < 14; index++) {
+        put_word(store.lent + 4 * index, points[index]);
+        put_word(expected.lent + 4 * index, points[index]);
+    }
+    int32_t still[PATH];
+    check_reply(sehmelir_read(store.lent, POINTS, still, PATH), SEHMELIR_DONE,
+                2, 1, "an outline without edges still reads");
+    check(memcmp(still, thin, sizeof thin) == 0, "  and gives its path");
 
     static const int32_t narrow_end[PATH] = {0, 0, 5, 20, 0, 1};
     uint64_t needed = bytes_of(narrow_end);
@@ -251,9 +273,9 @@ static void check_reach(void) {
     check_reach_of(drawn, 12, 1, 3, "reach past a drawn step");
     static const int32_t broken[9] = {0, 0, 5, 20, 0, 1, 20, 0, 1};
     check_reach_of(broken, 9, 0, 2, "reach past a broken step");
-    static const int32_t thin[12] = {0, 0, 5, 20, 0, 1, 40, 0, 1, 60, 0, 5};
-    check_reach_of(thin, 12, 0, 3, "reach over a thin step");
-    check_reach_of(thin, 9, 0, 3, "reach where only a thin step follows");
+    static const int32_t gap[12] = {0, 0, 5, 20, 0, 1, 40, 0, 1, 60, 0, 5};
+    check_reach_of(gap, 12, 0, 3, "reach over a thin step");
+    check_reach_of(gap, 9, 0, 3, "reach where only a thin step follows");
 }
 
 /* The outline with one word changed: read, replace, reach refuse it alike. */
@@ -344,7 +366,7 @@ static void check_import(void) {
     expected = out;
 
     check_reply(sehmelir_import(old, PATH - 1, out.lent, 0),
-                SEHMELIR_NOT_TRIPLES, PATH - 1, 0, "import of five numbers");
+                SEHMELIR_UNEVEN, PATH - 1, 0, "import of five numbers");
     static const float many[3 * 4097] = {0.5f};
     check_reply(sehmelir_import(many, 3 * 4097, out.lent, 0), SEHMELIR_TOO_MANY,
                 4097, 0, "import of 4,097 vertices");
@@ -369,7 +391,7 @@ static void check_export(void) {
     expected = out;
 
     check_reply(sehmelir_export(path, PATH - 1, out.lent, 0),
-                SEHMELIR_NOT_TRIPLES, PATH - 1, 0, "export of five numbers");
+                SEHMELIR_UNEVEN, PATH - 1, 0, "export of five numbers");
     static const int32_t many[3 * 4097] = {16777217};
     check_reply(sehmelir_export(many, 3 * 4097, out.lent, 0), SEHMELIR_TOO_MANY,
                 4097, 0, "export of 4,097 vertices");

@@ -127,7 +127,7 @@ fn fmt_refusal(refusal: &Refusal, formatter: &mut Formatter) -> fmt::Result {
 /// What the documents say of a refusal, and the number beside it.
 fn meaning(refusal: &Refusal) -> String {
     match refusal {
-        Refusal::NotTriples(count) => {
+        Refusal::Uneven(count) => {
             format!("the numbers lent are not a multiple of three; there are {count}")
         }
         Refusal::TooMany(count) => format!("above 4096 vertices; there are {count}"),
@@ -154,6 +154,10 @@ fn meaning(refusal: &Refusal) -> String {
         Refusal::NotTaken(place) => {
             format!("a number is not taken; the first such is at place {place}, counted from 0")
         }
+        Refusal::WithoutEdges(count) => format!(
+            "the path has no edges, so that nothing would be drawn; its vertices are {count} \
+             (a radius of 0 or 1 draws nothing)"
+        ),
         // one that the library has and this command does not know yet
         other => other.to_string(),
     }

@@ -18,7 +18,7 @@ impl Reply {
         let (long, word) = (self.number as usize, self.number as u32);
         Err(match self.reply {
             0 => return Ok(long),
-            1 => Refusal::NotTriples(long),
+            1 => Refusal::Uneven(long),
             2 => Refusal::TooMany(long),
             3 => Refusal::Grade(word),
             4 => Refusal::Outside(long),
@@ -28,6 +28,7 @@ impl Reply {
             8 => Refusal::NotSound(long),
             9 => Refusal::NoVertex(long),
             13 => Refusal::NotTaken(long),
+            18 => Refusal::WithoutEdges(long),
             reply => panic!("the archive gives reply {reply}, which this crate does not know"),
         })
     }

@@ -52,17 +52,18 @@ pub const fn outline_bytes(vertices: usize, edges: usize) -> usize {
 ///
 /// # Errors
 ///
-/// In this order: [`NotTriples`](Refusal::NotTriples),
-/// [`Grade`](Refusal::Grade), [`TooMany`](Refusal::TooMany),
-/// [`Outside`](Refusal::Outside), [`NoRoom`](Refusal::NoRoom) with the edges
-/// needed. A refusal leaves `out` as it was.
+/// In this order: [`Uneven`](Refusal::Uneven), [`Grade`](Refusal::Grade),
+/// [`TooMany`](Refusal::TooMany), [`Outside`](Refusal::Outside),
+/// [`WithoutEdges`](Refusal::WithoutEdges), [`NoRoom`](Refusal::NoRoom) with
+/// the edges needed. A refusal leaves `out` as it was.
 ///
 /// ```
 /// use sehmelir::{draw, Refusal};
 ///
-/// assert_eq!(draw(&[0, 0], 1, &mut []), Err(Refusal::NotTriples(2)));
+/// assert_eq!(draw(&[0, 0], 1, &mut []), Err(Refusal::Uneven(2)));
 /// assert_eq!(draw(&[0, 0, 10], 9, &mut []), Err(Refusal::Grade(9)));
 /// assert_eq!(draw(&[0, 0, -1], 1, &mut []), Err(Refusal::Outside(0)));
+/// assert_eq!(draw(&[0, 0, 1], 1, &mut []), Err(Refusal::WithoutEdges(1)));
 /// assert_eq!(draw(&[0, 0, 10], 1, &mut [0; 31]), Err(Refusal::NoRoom(8)));
 /// ```
 pub fn draw(path: &[i32], grade: u32, out: &mut [i32]) -> Result<usize, Refusal> {
@@ -99,7 +100,8 @@ pub fn keep(path: &[i32], grade: u32, out: &mut [u8]) -> Result<usize, Refusal> 
 /// returns how many vertices it has, and its grade.
 ///
 /// The store begins with the outline and may go on after it. Numbers of `out`
-/// past the path stay as they were.
+/// past the path stay as they were. An outline without edges, as they were kept
+/// once, still reads.
 ///
 /// ```
 /// let store = sehmelir::outline(&[0, 0, 5, 20, 0, 5], 3)?;
@@ -140,12 +142,12 @@ pub fn read(store: &[u8], out: &mut [i32]) -> Result<(usize, u32), Refusal> {
 /// past both stay as they were.
 ///
 /// ```
-/// let mut store = sehmelir::outline(&[0, 0, 10], 1)?;
+/// let mut store = sehmelir::outline(&[0, 0, 10, 3, 0, 2], 1)?;
 /// store.push(7);
-/// assert_eq!(sehmelir::replace(&mut store, 0, 3, 4, 1)?, 40);
-/// assert_eq!(store[..40], sehmelir::outline(&[3, 4, 1], 1)?);
-/// assert_eq!(store[40..168], [0; 128]);
-/// assert_eq!(store[168..], [7]);
+/// assert_eq!(sehmelir::replace(&mut store, 1, 20, 0, 10)?, 216);
+/// assert_eq!(store[..216], sehmelir::outline(&[0, 0, 10, 20, 0, 10], 1)?);
+/// assert_eq!(store[216..312], [0; 96]);
+/// assert_eq!(store[312..], [7]);
 /// # Ok::<(), sehmelir::Refusal>(())
 /// ```
 ///
@@ -153,16 +155,18 @@ pub fn read(store: &[u8], out: &mut [i32]) -> Result<(usize, u32), Refusal> {
 ///
 /// Those of [`read`] up to [`NotSound`](Refusal::NotSound), then
 /// [`NoVertex`](Refusal::NoVertex), [`Outside`](Refusal::Outside) of the new
-/// vertex with its index, [`NoRoom`](Refusal::NoRoom) with the bytes needed. A
-/// refusal leaves the store as it was.
+/// vertex with its index, [`WithoutEdges`](Refusal::WithoutEdges) of the
+/// changed path, [`NoRoom`](Refusal::NoRoom) with the bytes needed. A refusal
+/// leaves the store as it was.
 ///
 /// ```
 /// use sehmelir::{outline, replace, Refusal};
 ///
-/// let mut store = outline(&[0, 0, 1], 1)?;
-/// assert_eq!(replace(&mut store, 1, 0, 0, 10), Err(Refusal::NoVertex(1)));
+/// let mut store = outline(&[0, 0, 5, 3, 4, 0], 1)?;
+/// assert_eq!(replace(&mut store, 2, 0, 0, 10), Err(Refusal::NoVertex(2)));
 /// assert_eq!(replace(&mut store, 0, 0, 0, -1), Err(Refusal::Outside(0)));
-/// assert_eq!(replace(&mut store, 0, 0, 0, 10), Err(Refusal::NoRoom(168)));
+/// assert_eq!(replace(&mut store, 0, 0, 0, 1), Err(Refusal::WithoutEdges(2)));
+/// assert_eq!(replace(&mut store, 1, 20, 0, 5), Err(Refusal::NoRoom(216)));
 /// # Ok::<(), Refusal>(())
 /// ```
 pub fn replace(
@@ -205,7 +209,7 @@ pub fn replace(
 /// ```
 /// use sehmelir::{outline, reach, Refusal};
 ///
-/// let store = outline(&[0, 0, 1], 1)?;
+/// let store = outline(&[0, 0, 10], 1)?;
 /// assert_eq!(reach(&store, 0), Ok(1));
 /// assert_eq!(reach(&store, 1), Err(Refusal::NoVertex(1)));
 /// assert_eq!(reach(&[], 0), Err(Refusal::NotOutline));
@@ -264,11 +268,11 @@ pub fn take_width(value: f32) -> Result<i32, Untaken> {
 ///
 /// # Errors
 ///
-/// In this order: [`NotTriples`](Refusal::NotTriples),
-/// [`TooMany`](Refusal::TooMany), [`NotTaken`](Refusal::NotTaken),
-/// [`NoRoom`](Refusal::NoRoom) with the vertices needed. A refusal leaves `out`
-/// as it was. Beside `NotTaken` the reason is had by [`take_coordinate`] or, at
-/// every third place, by [`take_width`].
+/// In this order: [`Uneven`](Refusal::Uneven), [`TooMany`](Refusal::TooMany),
+/// [`NotTaken`](Refusal::NotTaken), [`NoRoom`](Refusal::NoRoom) with the
+/// vertices needed. A refusal leaves `out` as it was. Beside `NotTaken` the
+/// reason is had by [`take_coordinate`] or, at every third place, by
+/// [`take_width`].
 ///
 /// ```
 /// use sehmelir::{import, take_width, Refusal, Untaken};

@@ -10,7 +10,7 @@ use std::fmt::{self, Display, Formatter};
 pub enum Refusal {
     /// 1: so many numbers were lent as a path, and that is no multiple of
     /// three.
-    NotTriples(usize),
+    Uneven(usize),
     /// 2: so many vertices are above 4,096.
     TooMany(usize),
     /// 3: this grade is not 1 to 8.
@@ -37,6 +37,9 @@ pub enum Refusal {
     /// [`export`](crate::export) the one at this place, counted from 0, is the
     /// first that is not taken.
     NotTaken(usize),
+    /// 18: the path has so many vertices, at least one, and no edges: so it is
+    /// where every radius is 0 or 1.
+    WithoutEdges(usize),
 }
 
 impl Refusal {
@@ -47,7 +50,7 @@ impl Refusal {
     /// ```
     pub fn reply(&self) -> u32 {
         match self {
-            Refusal::NotTriples(_) => 1,
+            Refusal::Uneven(_) => 1,
             Refusal::TooMany(_) => 2,
             Refusal::Grade(_) => 3,
             Refusal::Outside(_) => 4,
@@ -57,6 +60,7 @@ impl Refusal {
             Refusal::NotSound(_) => 8,
             Refusal::NoVertex(_) => 9,
             Refusal::NotTaken(_) => 13,
+            Refusal::WithoutEdges(_) => 18,
         }
     }
 }
@@ -64,7 +68,7 @@ impl Refusal {
 impl Display for Refusal {
     fn fmt(&self, formatter: &mut Formatter) -> fmt::Result {
         match self {
-            Refusal::NotTriples(count) => {
+            Refusal::Uneven(count) => {
                 write!(
                     formatter,
                     "a path of {count} numbers is not made of triples"
@@ -88,6 +92,9 @@ impl Display for Refusal {
             Refusal::NoVertex(index) => write!(formatter, "the outline has no vertex {index}"),
             Refusal::NotTaken(place) => {
                 write!(formatter, "the number at place {place} is not taken")
+            }
+            Refusal::WithoutEdges(count) => {
+                write!(formatter, "a path of {count} vertices has no edges")
             }
         }
     }

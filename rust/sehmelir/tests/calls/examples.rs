@@ -51,8 +51,25 @@ fn bytes(words: &[i32]) -> Vec<u8> {
     words.iter().flat_map(|word| word.to_le_bytes()).collect()
 }
 
-/// The outline of an example whose edges are these.
-fn expected_outline((path, counts): Example, edges: &[[i32; 4]]) -> Vec<u8> {
+/// The edges of an example, none where it is refused for having none.
+fn drawn((path, counts): Example) -> Vec<[i32; 4]> {
+    let none = !path.is_empty() && counts.iter().all(|&count| count == 0);
+    match edges(path.as_flattened(), 1) {
+        Err(refusal) if none => {
+            assert_eq!(refusal, Refusal::WithoutEdges(path.len()));
+            vec![]
+        }
+        drawn => {
+            assert!(!none, "{path:?}");
+            drawn.unwrap()
+        }
+    }
+}
+
+/// The outline of an example, as it was kept once even where there are no
+/// edges.
+fn kept(example: Example) -> Vec<u8> {
+    let ((path, counts), edges) = (example, drawn(example));
     let mut words = vec![1, 0, 1, path.len() as i32, edges.len() as i32];
     for (vertex, &count) in path.iter().zip(counts) {
         words.extend(vertex);
@@ -63,16 +80,25 @@ fn expected_outline((path, counts): Example, edges: &[[i32; 4]]) -> Vec<u8> {
     bytes(&words)
 }
 
+/// What a path of so many edges is answered with: this number, or that it has
+/// none.
+fn accepted(path: &[[i32; 3]], edges: usize, number: usize) -> Result<usize, Refusal> {
+    match path.is_empty() || edges > 0 {
+        true => Ok(number),
+        false => Err(Refusal::WithoutEdges(path.len())),
+    }
+}
+
 #[test]
 fn draw_gives_the_edges() {
     for (path, counts) in EXAMPLES {
         let numbers = path.as_flattened();
         let count: usize = counts.iter().sum();
-        let edges = edges(numbers, 1).unwrap();
+        let edges = drawn((path, counts));
         assert_eq!(edges.len(), count, "{path:?}");
         let room = room(4 * count + 3);
         let (answer, out) = draw(numbers, 1, &room);
-        assert_eq!(answer, Ok(count), "{path:?}");
+        assert_eq!(answer, accepted(path, count, count), "{path:?}");
         assert_eq!(out[..4 * count], *edges.as_flattened(), "{path:?}");
         assert_eq!(out[4 * count..], room[4 * count..], "{path:?}");
     }
@@ -84,11 +110,15 @@ fn draw_gives_the_edges() {
 fn keep_gives_the_outline() {
     for (path, counts) in EXAMPLES {
         let numbers = path.as_flattened();
-        let expected = expected_outline((path, counts), &edges(numbers, 1).unwrap());
-        assert_eq!(outline(numbers, 1).unwrap(), expected, "{path:?}");
+        let (expected, edges) = (kept((path, counts)), counts.iter().sum());
         let room = room(expected.len() + 3);
         let (answer, out) = keep(numbers, 1, &room);
-        assert_eq!(answer, Ok(expected.len()), "{path:?}");
+        assert_eq!(answer, accepted(path, edges, expected.len()), "{path:?}");
+        if answer.is_err() {
+            assert_eq!(out, room, "{path:?}");
+            continue;
+        }
+        assert_eq!(outline(numbers, 1).unwrap(), expected, "{path:?}");
         assert_eq!(out[..expected.len()], expected, "{path:?}");
         assert_eq!(out[expected.len()..], room[expected.len()..], "{path:?}");
     }
@@ -100,9 +130,9 @@ fn keep_gives_the_outline() {
 
 #[test]
 fn read_gives_the_path() {
-    for (path, _) in EXAMPLES {
+    for (path, counts) in EXAMPLES {
         let numbers = path.as_flattened();
-        let mut store = outline(numbers, 1).unwrap();
+        let mut store = kept((path, counts));
         store.extend([7; 5]);
         let room = room(numbers.len() + 2);
         let (answer, out) = read(&store, &room);
@@ -112,19 +142,19 @@ fn read_gives_the_path() {
     }
 }
 
-/// Each example's vertices, one after another, become (0,0,1): the outline is
+/// Each example's vertices, one after another, become (0,0,2): the outline is
 /// that of the changed path, zeros follow where it shrank, then what was there.
 #[test]
 fn replace_gives_the_outline_of_the_changed_path() {
-    for (path, _) in EXAMPLES {
+    for (path, counts) in EXAMPLES {
+        let mut outline_before = kept((path, counts));
         let mut path = path.to_vec();
-        let mut outline_before = outline(path.as_flattened(), 1).unwrap();
         for index in 0..path.len() {
             let old = outline_before.len();
             let store = [&outline_before, room(500).as_slice()].concat();
-            path[index] = [0, 0, 1];
+            path[index] = [0, 0, 2];
             let expected = outline(path.as_flattened(), 1).unwrap();
-            let (answer, out) = replace(&store, index, [0, 0, 1]);
+            let (answer, out) = replace(&store, index, [0, 0, 2]);
             assert_eq!(answer, Ok(expected.len()), "{path:?}");
             assert_eq!(out[..expected.len()], expected, "{path:?}");
             let end = old.max(expected.len());
@@ -139,8 +169,8 @@ fn replace_gives_the_outline_of_the_changed_path() {
 /// the one of example 10.
 #[test]
 fn reach_gives_the_vertex_after_the_next() {
-    for (path, _) in EXAMPLES {
-        let store = outline(path.as_flattened(), 1).unwrap();
+    for (path, counts) in EXAMPLES {
+        let store = kept((path, counts));
         for index in 0..path.len() {
             let expected = path.len().min(index + 2);
             assert_eq!(reach(&store, index), Ok(expected), "{path:?}");

@@ -160,8 +160,8 @@ fn takes_every_float() {
 fn refuses_in_order() {
     let nan = vec![f32::NAN; 3 * 4097];
     let table: [(&[f32], Refusal); 10] = [
-        (&nan[..1], Refusal::NotTriples(1)),
-        (&nan[..12290], Refusal::NotTriples(12290)),
+        (&nan[..1], Refusal::Uneven(1)),
+        (&nan[..12290], Refusal::Uneven(12290)),
         (&nan, Refusal::TooMany(4097)),
         (&nan[..12288], Refusal::NotTaken(0)),
         (&[0.0, 0.5, f32::NAN], Refusal::NotTaken(1)),
@@ -184,8 +184,8 @@ fn refuses_in_order() {
     }
     let far = vec![268435457; 3 * 4097];
     let table: [(&[i32], Refusal); 9] = [
-        (&far[..2], Refusal::NotTriples(2)),
-        (&far[..12290], Refusal::NotTriples(12290)),
+        (&far[..2], Refusal::Uneven(2)),
+        (&far[..12290], Refusal::Uneven(12290)),
         (&far, Refusal::TooMany(4097)),
         (&far[..12288], Refusal::NotTaken(0)),
         (&[0, 268435488, 0], Refusal::NotTaken(1)),

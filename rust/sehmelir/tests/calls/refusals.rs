@@ -23,9 +23,10 @@ where
 #[test]
 fn of_paths() {
     let far = vec![FAR; 3 * 4097];
-    let table: [(&[i32], u32, Refusal); 12] = [
-        (&[7], 1, Refusal::NotTriples(1)),
-        (&far[..12290], 9, Refusal::NotTriples(12290)),
+    let thin = [0, 0, 1, 50, 0, 1, 7];
+    let table: [(&[i32], u32, Refusal); 19] = [
+        (&[7], 1, Refusal::Uneven(1)),
+        (&far[..12290], 9, Refusal::Uneven(12290)),
         (&far, 9, Refusal::Grade(9)),
         (&far, 0, Refusal::Grade(0)),
         (&[], u32::MAX, Refusal::Grade(u32::MAX)),
@@ -36,9 +37,16 @@ fn of_paths() {
         (&[0, FAR, 1], 1, Refusal::Outside(0)),
         (&[0, 0, FAR], 1, Refusal::Outside(0)),
         (&[i32::MIN, i32::MIN, i32::MIN], 1, Refusal::Outside(0)),
+        (&thin, 9, Refusal::Uneven(7)),
+        (&thin[..6], 9, Refusal::Grade(9)),
+        (&[0, 0, 1, 50, 0, -1], 1, Refusal::Outside(1)),
+        (&thin[..6], 1, Refusal::WithoutEdges(2)),
+        (&thin[..3], 8, Refusal::WithoutEdges(1)),
+        (&[0, 0, 0, 1, 0, 1, 1, 0, 1], 3, Refusal::WithoutEdges(3)),
+        (&[0; 3 * 4096], 2, Refusal::WithoutEdges(4096)),
     ];
     for (path, grade, expected) in table {
-        for length in [0, 1, 200] {
+        for length in [0, 1, 55, 56, 200] {
             let (numbers, bytes) = (room(length), room(length));
             assert_refused(draw(path, grade, &numbers), &numbers, expected);
             assert_refused(keep(path, grade, &bytes), &bytes, expected);
@@ -107,9 +115,14 @@ fn of_stores() {
     }
 }
 
+/// An outline without edges, as they were kept once.
+fn thin_store() -> Vec<u8> {
+    store(&[1, 0, 1, 2, 0, 0, 0, 1, 0, 50, 0, 1, 0, 0], 0)
+}
+
 #[test]
 fn of_replacements() {
-    let store = outline(&[0, 0, 1, 50, 0, 1], 1).unwrap();
+    let store = thin_store();
     let table = [
         (2, [FAR, 0, 0], Refusal::NoVertex(2)),
         (usize::MAX, [0, 0, 5], Refusal::NoVertex(usize::MAX)),
@@ -118,17 +131,23 @@ fn of_replacements() {
         (0, [0, 0, FAR], Refusal::Outside(0)),
         (0, [0, 0, -1], Refusal::Outside(0)),
         (0, [0, 0, i32::MIN], Refusal::Outside(0)),
+        (0, [9, 9, 0], Refusal::WithoutEdges(2)),
+        (1, [0, 0, 1], Refusal::WithoutEdges(2)),
     ];
     for (index, vertex, expected) in table {
         assert_refused(replace(&store, index, vertex), &store, expected);
         let longer = [&store, room(400).as_slice()].concat();
         assert_refused(replace(&longer, index, vertex), &longer, expected);
     }
+    let wide = outline(&[0, 0, 1, 50, 0, 2], 1).unwrap();
+    let refused = Refusal::WithoutEdges(2);
+    assert_refused(replace(&wide, 1, [50, 0, 1]), &wide, refused);
+    assert!(replace(&wide, 0, [50, 0, 1]).0.is_ok());
 }
 
 #[test]
 fn of_reaches() {
-    let store = outline(&[0, 0, 1, 50, 0, 1], 1).unwrap();
+    let store = thin_store();
     for index in [2, 3, 4096, 1 << 32, usize::MAX] {
         assert_eq!(reach(&store, index), Err(Refusal::NoVertex(index)));
     }
@@ -155,7 +174,7 @@ fn of_rooms() {
         assert_refused(read(&store, &room), &room, Refusal::NoRoom(1));
     }
     assert_eq!(read(&store, &room(3)).0, Ok((1, 1)));
-    let point = outline(&[0, 0, 1], 1).unwrap();
+    let point = self::store(&[1, 0, 1, 1, 0, 0, 0, 1, 0, 0], 0);
     for more in [0, 1, 127] {
         let store = [&point, room(more).as_slice()].concat();
         assert_refused(replace(&store, 0, circle), &store, Refusal::NoRoom(168));
@@ -168,7 +187,7 @@ fn of_rooms() {
 fn say_why() {
     let table = [
         (
-            Refusal::NotTriples(4),
+            Refusal::Uneven(4),
             "a path of 4 numbers is not made of triples",
         ),
         (Refusal::TooMany(4097), "4097 vertices are above 4096"),
@@ -189,8 +208,14 @@ fn say_why() {
             "the outline is not sound, first at byte 50",
         ),
         (Refusal::NoVertex(2), "the outline has no vertex 2"),
+        (Refusal::NotTaken(5), "the number at place 5 is not taken"),
+        (
+            Refusal::WithoutEdges(3),
+            "a path of 3 vertices has no edges",
+        ),
     ];
-    for ((refusal, text), reply) in table.into_iter().zip(1..) {
+    let replies = (1..=9).chain([13, 18]);
+    for ((refusal, text), reply) in table.into_iter().zip(replies) {
         let error: &dyn Error = &refusal;
         assert_eq!(error.to_string(), text);
         assert_eq!(refusal.reply(), reply);
