@@ -134,8 +134,8 @@ mod tests {
 
     #[test]
     fn a_vertex_is_replaced_by_one_of_any_size() {
-        let sheet = keep(&[0, 0, 0], 8).unwrap();
-        for radius in [0, 10, 1 << 28] {
+        let sheet = keep(&[0, 0, 2], 8).unwrap();
+        for radius in [2, 10, 1 << 28] {
             let replaced = replace(sheet.clone(), 0, [1, 2, radius]).unwrap();
             assert_eq!(replaced, keep(&[1, 2, radius], 8).unwrap());
             assert_eq!(read(&replaced).unwrap(), (vec![[1, 2, radius]], 8));
