@@ -16,7 +16,7 @@ ghost use Rattle.turning.specs.Bounds.{Centre, Radius, About};
 ghost use Rattle.folds.specs.Pens.{Lays};
 
 // From p, in the direction d, to q, in the direction e, about c by steps of the pen, the inner points at the radius.
-fn swept(
+pub fn swept(
     out: &mut [i32],
     at: usize,
     pen: Pen,

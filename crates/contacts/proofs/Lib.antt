@@ -4,3 +4,4 @@ pub mod Contacts
 pub mod Steps
 pub mod Tangents
 pub mod Covers
+pub mod OffCentre

@@ -106,7 +106,7 @@ fn along(e: Edge) -> Vector
 }
 
 // How the centre line bends between two sections.
-fn bend(prev: Section, next: Section) -> i64
+pub fn bend(prev: Section, next: Section) -> i64
     requires { ⌜ Around prev × Around next ⌝ }
     ensures { λ z. ⌜ z ≡ bendOf prev next ⌝ }
 {

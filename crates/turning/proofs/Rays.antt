@@ -39,7 +39,7 @@ ahead a b = ext _ _ (omega (arith, add-balance (a +ℤ b) (negℤ a), add-balanc
 behind : (a b : ℤ) → a -ℤ b -ℤ a ≡ negℤ b
 behind a b = ext _ _ (omega (arith, add-balance (a -ℤ b) (negℤ a), add-balance a (negℤ b), up-neg a, down-neg a))
 
-level : (a : ℤ) → a -ℤ a ≡ pos 0
+pub level : (a : ℤ) → a -ℤ a ≡ pos 0
 level a = ext _ _ (omega (arith, add-balance a (negℤ a), up-neg a, down-neg a))
 
 -- ---- a point about a centre
@@ -114,7 +114,7 @@ some-way a b e = go (natAbs (a -ℤ b)) refl
 some-square : (n : ℕ) → 0 < n → 0 < n * n
 some-square n h = omega (arith, mul-le-mul {n₁ = 1} {m₁ = 1} h h)
 
-apart-some : (p c : Point) → samePoint p c ≡ false → 0 < squareOf (fromTo c p)
+pub apart-some : (p c : Point) → samePoint p c ≡ false → 0 < squareOf (fromTo c p)
 unfolding samePoint fromTo squareOf
 apart-some p c e = go (sameNumber (p .x) (c .x)) refl e
   where
