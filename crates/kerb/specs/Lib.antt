@@ -1,2 +1,6 @@
 -- What the contracts cite.
 pub mod Kerbs
+pub mod Styles
+pub mod Bounds
+pub mod Tours
+pub mod Theorems
