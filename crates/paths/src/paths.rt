@@ -16,7 +16,7 @@ ghost use Rattle.paths.specs.Paths.{pathOf, none, bodiesFrom, bodiesAt, 
 ghost use Rattle.paths.specs.Stands.{firstStand, Begins};
 
 // A number with more room.
-fn wide(x: i32) -> i64
+pub fn wide(x: i32) -> i64
     ensures { λ r. ⌜ r ≡ x ⌝ }
 {
     x as i64
