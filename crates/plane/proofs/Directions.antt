@@ -1,4 +1,4 @@
--- A direction's component is the only number that its rule allows; a direction is no longer than 2^30; and a turn by one lengthens nothing.
+-- A direction's component is the only number that its rule allows; a direction is no longer than 2^30 and little shorter; and a turn by one lengthens nothing.
 -- Assumes nothing.
 use mathlib.Core.Path.{_≡_, refl}
 use mathlib.Core.Bool.{Bool, true}
@@ -8,7 +8,7 @@ use native.Mathlib.Omega.{arith}
 use lib.IntN.{ℤ, pos, natAbs, _+ℤ_, _-ℤ_, _*ℤ_}
 use lib.Pow.{pow-pos}
 use lib.Signed.{ltZ, quotZ}
-use Rattle.whole.proofs.Squares.{square-le, square-lt, four-power, scaled-square, rotated-sizes}
+use Rattle.whole.proofs.Squares.{square-next, square-le, square-lt, four-power, scaled-square, rotated-sizes}
 use Rattle.whole.proofs.Division.{quot-most}
 use Rattle.number.specs.MulDiv.{withSign, mulDivOf}
 use Rattle.number.proofs.Roots.{root-is, root-is-largest, root-only}
@@ -41,6 +41,10 @@ part-low c s h = le-div-iff-mul-le {k = s} {x = partOf c s * partOf c s} {y = c 
 part-high : (c s : ℕ) → 0 < s → (n : ℕ) → n * n * s ≤ c * c * 2 ^ 60 → n ≤ partOf c s
 unfolding partOf
 part-high c s h n l = root-is-largest (c * c * 2 ^ 60 / s) .1 n (le-div-iff-mul-le {k = s} {x = n * n} {y = c * c * 2 ^ 60} h .1 l)
+
+part-next : (c s : ℕ) → 0 < s → c * c * 2 ^ 60 < (partOf c s + 1) * (partOf c s + 1) * s
+unfolding partOf
+part-next c s h = div-lt-iff-lt-mul {k = s} {x = c * c * 2 ^ 60} {y = (partOf c s + 1) * (partOf c s + 1)} h .0 (root-is (c * c * 2 ^ 60 / s) .high)
 
 -- and at most 2 ^ 30
 pub part-most : (c s n : ℕ) → 0 < s → c * c ≤ s → n * n * s ≤ c * c * 2 ^ 60 → n ≤ 2 ^ 30
@@ -92,6 +96,23 @@ direction-unit v h =
     let k : m * m + n * n ≤ 2 ^ 60 = le-of-mul-le-mul-right {m = m * m + n * n} {n = 2 ^ 60} {k = s} (omega (arith, add-mul (m * m) (n * n) s, part-low (natAbs (v .x)) s h, part-low (natAbs (v .y)) s h)) h in
     record { length = rw (component-size (v .x) s, component-size (v .y) s) k }
 
+-- and to little less: m and n are the sizes of its components, s is x * x + y * y
+parts-long : (x y m n s : ℕ) → s ≡ x * x + y * y → x * x * 2 ^ 60 < (m + 1) * (m + 1) * s → y * y * 2 ^ 60 < (n + 1) * (n + 1) * s → m ≤ 2 ^ 30 → n ≤ 2 ^ 30
+    → 2 ^ 60 ≤ m * m + n * n + (2 ^ 32 + 1)
+parts-long x y m n s e f g a b =
+    let k : 2 ^ 60 * s < ((m + 1) * (m + 1) + (n + 1) * (n + 1)) * s = omega (arith, e, f, g, add-mul ((m + 1) * (m + 1)) ((n + 1) * (n + 1)) s) in
+    omega (arith, a, b, lt-of-mul-lt-mul-right s k, square-next m, square-next n)
+
+pub direction-long : (v : Vector) → 0 < squareOf v → 2 ^ 60 ≤ squareOf (directionOf v) + (2 ^ 32 + 1)
+unfolding squareOf directionOf
+direction-long v h =
+    let x = natAbs (v .x) in
+    let y = natAbs (v .y) in
+    let s = squareOf v in
+    rw (component-size (v .x) s, component-size (v .y) s)
+    (parts-long x y (partOf x s) (partOf y s) s refl (part-next x s h) (part-next y s h)
+    (part-most x s (partOf x s) h (omega arith) (part-low x s h)) (part-most y s (partOf y s) h (omega arith) (part-low y s h)))
+
 -- what its parts ask for, of the size m of a coordinate
 module _ (v : Vector) (l : Length) (h : Short v) (k : 0 < squareOf v) (e : Measures v l) where
   abbrev Asks : ℕ → Type 0
@@ -135,6 +156,10 @@ square-some m (suc n) h = omega (arith, mul-le-mul {n₁ = 1} {m₁ = 1} {n₂ =
 pub step-unit : (k : ℕ) {t : Vector} → t ≡ stepOf k → UnitLong t
 unfolding stepOf squareOf
 step-unit k e = rw e (direction-unit (record { x = pos (4 ^ k - 1); y = pos (2 ^ (k + 1)) }) (square-some (4 ^ k - 1) (2 ^ (k + 1)) (pow-pos (k + 1))))
+
+pub step-long : (k : ℕ) {t : Vector} → t ≡ stepOf k → 2 ^ 60 ≤ squareOf t + (2 ^ 32 + 1)
+unfolding stepOf squareOf
+step-long k e = rw e (direction-long (record { x = pos (4 ^ k - 1); y = pos (2 ^ (k + 1)) }) (square-some (4 ^ k - 1) (2 ^ (k + 1)) (pow-pos (k + 1))))
 
 -- ---- a turn
 

@@ -160,24 +160,24 @@ within-then u v w h k = most-within u w (most-same (through (u .x) (v .x) (w .x)
 -- ---- a turn
 
 -- the parts of a product, before they are divided by 2 ^ 30, and what the divisions leave
-abbrev firstOf : Vector → Vector → ℤ
+abbrev pub firstOf : Vector → Vector → ℤ
 firstOf t v = t .x *ℤ v .x -ℤ t .y *ℤ v .y
 
-abbrev secondOf : Vector → Vector → ℤ
+abbrev pub secondOf : Vector → Vector → ℤ
 secondOf t v = t .y *ℤ v .x +ℤ t .x *ℤ v .y
 
-abbrev restOf : Vector → Vector → Vector
+abbrev pub restOf : Vector → Vector → Vector
 restOf t v = record { x = remZ (firstOf t v) (pos (2 ^ 30)); y = remZ (secondOf t v) (pos (2 ^ 30)) }
 
-turned-x : (t v : Vector) → rotatedOf t v .x *ℤ pos (2 ^ 30) +ℤ restOf t v .x ≡ firstOf t v
+pub turned-x : (t v : Vector) → rotatedOf t v .x *ℤ pos (2 ^ 30) +ℤ restOf t v .x ≡ firstOf t v
 unfolding rotatedOf
 turned-x t v = quot-rem (firstOf t v) (2 ^ 30)
 
-turned-y : (t v : Vector) → rotatedOf t v .y *ℤ pos (2 ^ 30) +ℤ restOf t v .y ≡ secondOf t v
+pub turned-y : (t v : Vector) → rotatedOf t v .y *ℤ pos (2 ^ 30) +ℤ restOf t v .y ≡ secondOf t v
 unfolding rotatedOf
 turned-y t v = quot-rem (secondOf t v) (2 ^ 30)
 
-rest-most : (t v : Vector) → Most (3 * 2 ^ 29) (restOf t v .x) (restOf t v .y)
+pub rest-most : (t v : Vector) → Most (3 * 2 ^ 29) (restOf t v .x) (restOf t v .y)
 rest-most t v = remainders-most (firstOf t v) (secondOf t v)
 
 parts-most : {a b : ℕ} (t v : Vector) → Most a (t .x) (t .y) → Most b (v .x) (v .y) → Most (a * b) (firstOf t v) (secondOf t v)

@@ -64,7 +64,7 @@ product-far l b c s x y h k =
 size-scaled : (x : ℤ) (s : ℕ) → natAbs (x *ℤ pos s) * natAbs (x *ℤ pos s) ≡ natAbs x * natAbs x * (s * s)
 size-scaled x s = rw (abs-mul x (pos s)) (square-product (natAbs x) s)
 
-multiple : (x y : ℤ) (s : ℕ) → natAbs (x *ℤ pos s) * natAbs (x *ℤ pos s) + natAbs (y *ℤ pos s) * natAbs (y *ℤ pos s)
+pub multiple : (x y : ℤ) (s : ℕ) → natAbs (x *ℤ pos s) * natAbs (x *ℤ pos s) + natAbs (y *ℤ pos s) * natAbs (y *ℤ pos s)
     ≡ (natAbs x * natAbs x + natAbs y * natAbs y) * (s * s)
 multiple x y s = omega (arith, size-scaled x s, size-scaled y s, add-mul (natAbs x * natAbs x) (natAbs y * natAbs y) (s * s))
 
