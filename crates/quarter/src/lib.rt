@@ -1,0 +1,1 @@
+// How many rotations an arc can need: no code.
