@@ -1,4 +1,5 @@
 -- The crate's own laws.
+pub mod MostBy
 pub mod Most
 pub mod PathWalk
 pub mod Stands

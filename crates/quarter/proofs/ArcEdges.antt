@@ -1,24 +1,23 @@
 -- How many edges an arc can have, by grade: a half of a circle goes through two quarters, any other arc through four. Assumes nothing.
-use mathlib.Core.Path.{_≡_, refl, sym, ap, _∙_}
+use mathlib.Core.Path.{_≡_, refl}
 use mathlib.Core.Bool.{Bool, true, false}
-use mathlib.Core.List.{List, [], _++_}
-use Prim.Native.Nat.{ℕ, _+_, _*_, _^_, _≤_, _<_}
+use mathlib.Core.List.{[], _++_}
+use Prim.Native.Nat.{ℕ, _+_, _*_, _^_, _≤_}
 use native.Mathlib.Omega.{arith}
 use lib.IntN.{ℤ, pos, negℤ}
 use lib.Signed.{leZ, _≤ℤ_}
 use Rattle.whole.proofs.Signed.{le-from}
-use Rattle.plane.specs.Vectors.{fromTo, crossOf, squareOf}
+use Rattle.plane.specs.Vectors.{fromTo, crossOf}
 use Rattle.plane.specs.Directions.{directionOf, stepOf}
 use Rattle.plane.specs.declared.Point.{Point}
 use Rattle.plane.specs.declared.Vector.{Vector}
-use Rattle.turning.specs.Edges.{edgeOf}
-use Rattle.turning.specs.Arcs.{sweepOf, emptyOf, fullOf, ringOf, turnsOf, sweptOf, eastOf, westOf, circleOf, arcOf}
+use Rattle.turning.specs.Arcs.{sweepOf, emptyOf, fullOf, ringOf, sweptOf, eastOf, westOf, circleOf, arcOf}
 use Rattle.turning.specs.Bounds.{Most}
-use Rattle.turning.specs.declared.Edge.{Edge}
 use Rattle.turning.specs.declared.Turning.{Turning}
 use Rattle.turning.proofs.Most.{most-none, most-up, most-both, most-if, edge-most, turns-most}
 use Rattle.turning.proofs.Rays.{east-some, west-some, eastward-told, westward-told}
-use Rattle.quarter.specs.Rotations.{quarterOf, arcMost, ArcMost, CircleMost}
+use Rattle.quarter.specs.Rotations.{quarterOf, rotationsOf}
+use Rattle.quarter.specs.Most.{arcMost, ArcMost, CircleMost}
 use Rattle.quarter.proofs.NotCounted.{Stops, arc-stops, half-stops, count-enough, rotations-most}
 
 module _ (g : ℕ) (h : 1 ≤ g) (u : g ≤ 8) where
@@ -61,13 +60,13 @@ module _ (g : ℕ) (h : 1 ≤ g) (u : g ≤ 8) where
       go true e = most-none (4 * quarterOf (stepOf g))
       go false e = most-up (omega arith) (most-both (there-few c r e) (back-few c r e))
 
-pub circle-most : CircleMost
-unfolding arcMost
-circle-most g c r h u = most-up (omega arith) (circle-few g h u c r)
+pub circle-by-grade : CircleMost
+unfolding arcMost rotationsOf
+circle-by-grade g c r h u = most-up (omega arith) (circle-few g h u c r)
 
-pub arc-most : ArcMost
-unfolding arcMost arcOf
-arc-most g c r p q choice h u =
+pub arc-by-grade : ArcMost
+unfolding arcMost rotationsOf arcOf
+arc-by-grade g c r p q choice h u =
     let m = fromTo c p in
     let n = fromTo c q in
     let w = sweepOf m n choice in

@@ -72,11 +72,11 @@ pub record Advances (t : Vector) (c s f : ℕ) : Type 0 where
   pub far : 3 * 2 ^ 16 ≤ f
 
 -- a direction after n rotations, for n up to 1,536: little shorter than 2 ^ 30
-pub record Kept (n : ℕ) (d : Vector) : Type 0 where
+pub record StaysLong (n : ℕ) (d : Vector) : Type 0 where
   pub unit : UnitLong d
   pub long : 2 ^ 60 ≤ squareOf d + 2 ^ 33 * n + (2 ^ 32 + 1)
 
-kept-long : {n : ℕ} {d : Vector} → n ≤ 1536 → Kept n d → 2 ^ 60 - 2 ^ 44 ≤ squareOf d
+kept-long : {n : ℕ} {d : Vector} → n ≤ 1536 → StaysLong n d → 2 ^ 60 - 2 ^ 44 ≤ squareOf d
 kept-long h k = omega (arith, h, k .long)
 
 natural-is : {a : ℤ} → pos 0 ≤ℤ a → a ≡ pos (natAbs a)
@@ -89,7 +89,7 @@ cross-most : (d e : Vector) → UnitLong d → UnitLong e → natAbs (crossOf d 
 cross-most d e hd he = square-le (natAbs (crossOf d e)) (2 ^ 60) (omega (arith, products d e, mul-le-mul (hd .length) (he .length)))
 
 -- where d leaves the quarter before e: ahead still, and past it, fewer than k rotations before the last
-pub record Leaves (t e d : Vector) (k : ℕ) : Type 0 where
+pub record LeavesQuarter (t e d : Vector) (k : ℕ) : Type 0 where
   pub turns : ℕ
   pub few : turns < k
   pub quarter : Quarter e (turnedOf turns t d)
@@ -110,10 +110,10 @@ module _ {t : Vector} {c s f : ℕ} (T : Advances t c s f) where
   s-most : s ≤ 2 ^ 30
   s-most = rw (T .y) at (unit-short (T .unit) .y .size)
 
-  kept-next : {n : ℕ} {d : Vector} → Kept n d → Kept (suc n) (rotatedOf t d)
+  kept-next : {n : ℕ} {d : Vector} → StaysLong n d → StaysLong (suc n) (rotatedOf t d)
   kept-next {n} {d} k = record { unit = turned-unit (T .unit) (k .unit); long = omega (arith, k .long, shrinks t d (T .unit) (k .unit) (T .long)) }
 
-  kept-many : (k n : ℕ) (d : Vector) → Kept n d → Kept (n + k) (turnedOf k t d)
+  kept-many : (k n : ℕ) (d : Vector) → StaysLong n d → StaysLong (n + k) (turnedOf k t d)
   unfolding turnedOf
   kept-many zero n d K = rw (add-zero n) K
   kept-many (suc k) n d K = rw (add-suc n k) (rw (suc-add n k) at (kept-many k (suc n) (rotatedOf t d) (kept-next K)))
@@ -151,11 +151,11 @@ module _ {t : Vector} {c s f : ℕ} (T : Advances t c s f) where
 
   -- so d leaves that quarter: a is what a rotation adds
   module _ (a : ℕ) (ha : a ≡ f * (2 ^ 30 - 2 ^ 15)) where
-    leaves : (k n : ℕ) (e d : Vector) → UnitLong e → 2 ^ 60 - 2 ^ 44 ≤ squareOf e → Kept n d → n + k ≤ 1536 → Quarter e d
-        → 2 ^ 60 + natAbs (crossOf d e) < natAbs (dotOf d e) + k * a → Leaves t e d k
+    leaves-quarter : (k n : ℕ) (e d : Vector) → UnitLong e → 2 ^ 60 - 2 ^ 44 ≤ squareOf e → StaysLong n d → n + k ≤ 1536 → Quarter e d
+        → 2 ^ 60 + natAbs (crossOf d e) < natAbs (dotOf d e) + k * a → LeavesQuarter t e d k
     unfolding turnedOf
-    leaves zero n e d he le K few Q far = absurd (omega (arith, far, dot-most d e (K .unit) he))
-    leaves (suc k) n e d he le K few Q far = go (leZ (crossOf (rotatedOf t d) e) (pos 0)) refl (λ R h. leaves k (suc n) e (rotatedOf t d) he le (kept-next K) (omega (arith, few)) R h)
+    leaves-quarter zero n e d he le K few Q far = absurd (omega (arith, far, dot-most d e (K .unit) he))
+    leaves-quarter (suc k) n e d he le K few Q far = go (leZ (crossOf (rotatedOf t d) e) (pos 0)) refl (λ R h. leaves-quarter k (suc n) e (rotatedOf t d) he le (kept-next K) (omega (arith, few)) R h)
       where
         next : pos 0 ≤ℤ dotOf (rotatedOf t d) e
         next = next-ahead he le (kept-long (omega (arith, few)) K) Q
@@ -164,7 +164,7 @@ module _ {t : Vector} {c s f : ℕ} (T : Advances t c s f) where
         more = rw ha (next-grows he le (kept-long (omega (arith, few)) K) Q)
 
         go : (x : Bool) → leZ (crossOf (rotatedOf t d) e) (pos 0) ≡ x
-            → (Quarter e (rotatedOf t d) → 2 ^ 60 + natAbs (crossOf (rotatedOf t d) e) < natAbs (dotOf (rotatedOf t d) e) + k * a → Leaves t e (rotatedOf t d) k) → Leaves t e d (suc k)
+            → (Quarter e (rotatedOf t d) → 2 ^ 60 + natAbs (crossOf (rotatedOf t d) e) < natAbs (dotOf (rotatedOf t d) e) + k * a → LeavesQuarter t e (rotatedOf t d) k) → LeavesQuarter t e d (suc k)
         go true w on = record { turns = 0; few = omega arith; quarter = Q; ahead = next; past = le-from (crossOf (rotatedOf t d) e) (pos 0) (le-true (crossOf (rotatedOf t d) e) (pos 0) w) }
         go false w on =
             let l = le-false (crossOf (rotatedOf t d) e) (pos 0) w in
@@ -177,10 +177,10 @@ module _ {t : Vector} {c s f : ℕ} (T : Advances t c s f) where
     -- ---- from quarter to quarter, each of k rotations at most
 
     module _ (k : ℕ) (hk : 2 ^ 61 < k * a) where
-      through : (n : ℕ) (e d : Vector) → UnitLong e → 2 ^ 60 - 2 ^ 44 ≤ squareOf e → Kept n d → n + k ≤ 1536 → Quarter e d → Leaves t e d k
-      through n e d he le K few Q = leaves k n e d he le K few Q (omega (arith, hk, cross-most d e (K .unit) he))
+      through : (n : ℕ) (e d : Vector) → UnitLong e → 2 ^ 60 - 2 ^ 44 ≤ squareOf e → StaysLong n d → n + k ≤ 1536 → Quarter e d → LeavesQuarter t e d k
+      through n e d he le K few Q = leaves-quarter k n e d he le K few Q (omega (arith, hk, cross-most d e (K .unit) he))
 
-      pub arrives : (m n : ℕ) (e d : Vector) → UnitLong e → 2 ^ 60 - 2 ^ 44 ≤ squareOf e → Kept n d → n + k * suc m ≤ 1536 → Quarter (rights m e) d → Arrives t e d (k * suc m)
+      pub arrives : (m n : ℕ) (e d : Vector) → UnitLong e → 2 ^ 60 - 2 ^ 44 ≤ squareOf e → StaysLong n d → n + k * suc m ≤ 1536 → Quarter (rights m e) d → Arrives t e d (k * suc m)
       unfolding rights
       arrives zero n e d he le K few Q =
           let l = through n e d he le K (omega (arith, few)) Q in

@@ -1,6 +1,6 @@
 -- A direction that turns within the quarter before another comes on with each rotation, and hardly shrinks. Assumes nothing.
 use mathlib.Core.Path.{_≡_, refl, sym, ap, _∙_}
-use Prim.Native.Nat.{ℕ, _+_, _-_, _*_, _^_, _≤_, _<_}
+use Prim.Native.Nat.{ℕ, _+_, _-_, _*_, _^_, _≤_}
 use native.Mathlib.Nat.{mul-le-mul, mul-le-mul-left, mul-le-mul-right, mul-add, add-mul, add-assoc, add-left-comm}
 use native.Mathlib.Omega.{arith}
 use lib.IntN.{ℤ, pos, negℤ, natAbs, _+ℤ_, _-ℤ_, _*ℤ_, negℤ-+ℤ, negℤ-negℤ}

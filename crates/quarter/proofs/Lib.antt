@@ -3,3 +3,4 @@ pub mod Gains
 pub mod Arrivals
 pub mod NotCounted
 pub mod ArcEdges
+pub mod PathEdges

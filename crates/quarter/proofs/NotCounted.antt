@@ -1,15 +1,15 @@
 -- No arc is stopped by the count: from any direction to any other, by the step of any grade, its own rule stops it first. Assumes nothing.
 use mathlib.Core.Path.{_≡_, refl, sym, ap, _∙_}
-use mathlib.Core.Bool.{Bool, true, false, _&&_}
-use mathlib.Core.List.{List, _++_}
+use mathlib.Core.Bool.{Bool, true, false}
+use mathlib.Core.List.{_++_}
 use Prim.Native.Nat.{ℕ, zero, suc, _+_, _-_, _*_, _^_, _≤_, _<_, _/_}
 use native.Mathlib.Nat.{mul-le-mul-left, mul-le-mul-right, mul-zero, zero-mul, div-lt-iff-lt-mul, lt-of-not-le}
 use native.Mathlib.Decide.{decLe}
 use native.Mathlib.Omega.{arith}
 use lib.Dec.{lit≤}
 use lib.IntN.{ℤ, pos, negℤ, natAbs, negℤ-negℤ}
-use lib.Signed.{leZ, ltZ, _≤ℤ_}
-use Rattle.whole.proofs.Signed.{up, down, ext, abs-is, le-from, le-to, up-neg, down-neg}
+use lib.Signed.{leZ, _≤ℤ_}
+use Rattle.whole.proofs.Signed.{ext, abs-is, le-from, le-to, up-neg, down-neg}
 use Rattle.whole.proofs.Order.{le-true, le-false}
 use Rattle.whole.proofs.Squares.{square-le}
 use Rattle.number.specs.Root.{correctedOf, rootIn, rootOf}
@@ -20,12 +20,11 @@ use Rattle.plane.specs.declared.Vector.{Vector}
 use Rattle.plane.proofs.Directions.{turned-no-longer, direction-unit, direction-long, step-unit, step-long}
 use Rattle.turning.specs.Arcs.{nearOf, stopsOf, turnsOf, sweptOf}
 use Rattle.turning.specs.Edges.{edgeOf}
-use Rattle.turning.specs.declared.Edge.{Edge}
 use Rattle.turning.specs.declared.Turning.{Turning}
 use Rattle.leaps.specs.Leaps.{turnedOf}
 use Rattle.quarter.specs.Rotations.{excessOf, quarterOf, rotationsOf, sweptWithin, NoArcCounted}
 use Rattle.quarter.proofs.Gains.{products}
-use Rattle.quarter.proofs.Arrivals.{Quarter, Kept, Advances, Arrives, rights, rightOf, dot-right, cross-right, arrives}
+use Rattle.quarter.proofs.Arrivals.{Quarter, StaysLong, Advances, Arrives, rights, rightOf, dot-right, cross-right, arrives}
 
 -- an arc from d towards e stops by its rule after fewer than k rotations
 pub record Stops (t d e : Vector) (k : ℕ) : Type 0 where
@@ -38,13 +37,13 @@ stops-up h s = record { turns = s .turns; few = omega (arith, h, s .few); stops 
 
 -- ---- which quarter before e a direction lies in, of e and e turned once, twice and three times to the right
 
-record Lies (e d : Vector) : Type 0 where
+record InQuarter (e d : Vector) : Type 0 where
   quarters : ℕ
   few : quarters ≤ 3
   half : pos 0 ≤ℤ crossOf d e → quarters ≤ 1
   there : Quarter (rights quarters e) d
 
-lies : (d e : Vector) → Lies e d
+lies : (d e : Vector) → InQuarter e d
 unfolding rights
 lies d e = go (leZ (pos 0) (dotOf d e)) (leZ (pos 0) (crossOf d e)) refl refl
   where
@@ -69,7 +68,7 @@ lies d e = go (leZ (pos 0) (dotOf d e)) (leZ (pos 0) (crossOf d e)) refl refl
     never : {n : ℕ} → leZ (pos 0) (crossOf d e) ≡ false → pos 0 ≤ℤ crossOf d e → n ≤ 1
     never w h = absurd (omega (arith, le-false (pos 0) (crossOf d e) w, le-to h))
 
-    go : (x y : Bool) → leZ (pos 0) (dotOf d e) ≡ x → leZ (pos 0) (crossOf d e) ≡ y → Lies e d
+    go : (x y : Bool) → leZ (pos 0) (dotOf d e) ≡ x → leZ (pos 0) (crossOf d e) ≡ y → InQuarter e d
     go true true v w = record { quarters = 0; few = omega arith; half = λ h. omega arith; there = record { dot = yes (dotOf d e) v; cross = yes (crossOf d e) w } }
     go false true v w = record { quarters = 1; few = omega arith; half = λ h. omega arith; there = one (yes (crossOf d e) w) (no (dotOf d e) v) }
     go false false v w = record { quarters = 2; few = omega arith; half = never w; there = two (no (dotOf d e) v) (no (crossOf d e) w) }
@@ -78,7 +77,7 @@ lies d e = go (leZ (pos 0) (dotOf d e)) (leZ (pos 0) (crossOf d e)) refl refl
 -- ---- the eight steps
 
 -- with what its numbers give: a quarter has few rotations, so that four have no more than 1,536
-record Step (g : ℕ) : Type 0 where
+record StepNumbers (g : ℕ) : Type 0 where
   cosine : ℕ
   sine : ℕ
   excess : ℕ
@@ -87,7 +86,7 @@ record Step (g : ℕ) : Type 0 where
   quarter : quarterOf (stepOf g) ≡ 2 ^ 61 / (excess * (2 ^ 30 - 2 ^ 15)) + 1
   few : quarterOf (stepOf g) ≤ 384
 
-step-at : (g c s f : ℕ) → stepOf g ≡ record { x = pos c; y = pos s } → c + s ≡ 2 ^ 30 + f → 3 * 2 ^ 16 ≤ f → quarterOf (stepOf g) ≡ 2 ^ 61 / (f * (2 ^ 30 - 2 ^ 15)) + 1 → quarterOf (stepOf g) ≤ 384 → Step g
+step-at : (g c s f : ℕ) → stepOf g ≡ record { x = pos c; y = pos s } → c + s ≡ 2 ^ 30 + f → 3 * 2 ^ 16 ≤ f → quarterOf (stepOf g) ≡ 2 ^ 61 / (f * (2 ^ 30 - 2 ^ 15)) + 1 → quarterOf (stepOf g) ≤ 384 → StepNumbers g
 step-at g c s f e h k q m = record {
   cosine = c;
   sine = s;
@@ -98,7 +97,7 @@ step-at g c s f e h k q m = record {
   few = m;
 }
 
-steps : (g : ℕ) → 1 ≤ g → g ≤ 8 → Step g
+steps : (g : ℕ) → 1 ≤ g → g ≤ 8 → StepNumbers g
 unfolding correctedOf rootIn rootOf squareOf partOf componentOf directionOf stepOf excessOf quarterOf
 steps zero h k = absurd (omega (arith, h))
 steps (suc zero) h k = step-at 1 644245094 858993459 429496729 refl refl (lit≤ tt) refl (lit≤ tt)
@@ -137,7 +136,7 @@ module _ (g : ℕ) (m n : Vector) (h : 1 ≤ g) (k : g ≤ 8) (a : 0 < squareOf 
       let z = quarterOf (stepOf g) in
       let gain = S .excess * (2 ^ 30 - 2 ^ 15) in
       let far : 2 ^ 61 < z * gain = rw (S .quarter) (div-lt-iff-lt-mul {k = gain} {x = 2 ^ 61} {y = 2 ^ 61 / gain + 1} (S .some) .0 (omega arith)) in
-      let K : Kept 0 (directionOf m) = record { unit = direction-unit m a; long = omega (arith, direction-long m a) } in
+      let K : StaysLong 0 (directionOf m) = record { unit = direction-unit m a; long = omega (arith, direction-long m a) } in
       let w : z * suc (at .quarters) ≤ z * suc j = mul-le-mul-left z (let q : suc (at .quarters) ≤ suc j = omega (arith, l) in q) in
       let v : z * suc j ≤ z * 4 = mul-le-mul-left z (let q : suc j ≤ 4 = omega (arith, u) in q) in
       stops-up w

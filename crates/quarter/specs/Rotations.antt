@@ -7,10 +7,8 @@ use Rattle.plane.specs.Vectors.{fromTo}
 use Rattle.plane.specs.Directions.{directionOf, stepOf}
 use Rattle.plane.specs.declared.Point.{Point}
 use Rattle.plane.specs.declared.Vector.{Vector}
-use Rattle.turning.specs.Arcs.{turnsOf, sweptOf, circleOf, arcOf}
-use Rattle.turning.specs.Bounds.{Most}
+use Rattle.turning.specs.Arcs.{turnsOf, sweptOf}
 use Rattle.turning.specs.declared.Edge.{Edge}
-use Rattle.turning.specs.declared.Sweep.{Sweep}
 
 -- By how much the two parts of a step together exceed its length, which is 2^30.
 unfoldable pub excessOf : Vector → ℕ
@@ -32,13 +30,3 @@ sweptWithin k t c r p q = turnsOf k (record { step = t; centre = c; radius = r; 
 -- The count is never reached: whatever number from `rotationsOf` on stands in its place, the larger ones among them, the arc has the same edges.
 abbrev pub NoArcCounted : Type 0
 NoArcCounted = (g k : ℕ) (c : Point) (r : ℤ) (p q : Point) → 1 ≤ g → g ≤ 8 → rotationsOf g ≤ k → sweptWithin k (stepOf g) c r p q ≡ sweptOf (stepOf g) c r p q
-
--- The most edges of an arc: four quarters, or a circle and the edge after it.
-unfoldable pub arcMost : ℕ → ℕ
-arcMost g = 4 * quarterOf (stepOf g) + 1
-
-abbrev pub ArcMost : Type 0
-ArcMost = (g : ℕ) (c : Point) (r : ℤ) (p q : Point) (choice : Sweep) → 1 ≤ g → g ≤ 8 → Most (arcMost g) (arcOf (stepOf g) c r p q choice)
-
-abbrev pub CircleMost : Type 0
-CircleMost = (g : ℕ) (c : Point) (r : ℤ) → 1 ≤ g → g ≤ 8 → Most (arcMost g) (circleOf (stepOf g) c r)

@@ -122,7 +122,7 @@ apart-some p c e = go (sameNumber (p .x) (c .x)) refl e
     go true h k = omega (arith, some-square _ (some-way (p .y) (c .y) k))
     go false h k = omega (arith, some-square _ (some-way (p .x) (c .x) h))
 
-neither : (a b : Bool) → (a || b) ≡ false → (a ≡ false) × (b ≡ false)
+pub neither : (a b : Bool) → (a || b) ≡ false → (a ≡ false) × (b ≡ false)
 neither true b e = absurd (true≢false e)
 neither false b e = (refl, e)
 

@@ -1,0 +1,7 @@
+-- The crate's own laws.
+pub mod Carried
+pub mod Chained
+pub mod EvenCaps
+pub mod PathsClose
+pub mod KerbsClose
+pub mod Reached

@@ -1,0 +1,1 @@
+// Boundaries that close: no code.
