@@ -64,11 +64,11 @@ corner-joins t y prev next = go (leZ (pos 0) (bendOf prev next))
     go false = record { connects = λ x. omega (arith, sides (prev .right .b) (next .right .a) (next .left .a) (prev .left .b) x) }
 
 -- sections from s on, and the corners between them
-rows : (t : Vector) (y : Style) (s : Section) (ss : List Section) (x : Point)
+sections-open : (t : Vector) (y : Style) (s : Section) (ss : List Section) (x : Point)
     → startsAt x (sectionEdges (s ∷ ss)) + startsAt x (cornersFrom t y s ss) + hereOf x (s .left .a) + hereOf x (lastOf s ss .right .b)
     ≡ endsAt x (sectionEdges (s ∷ ss)) + endsAt x (cornersFrom t y s ss) + hereOf x (s .right .a) + hereOf x (lastOf s ss .left .b)
 unfolding sectionEdges cornersFrom lastOf startsAt endsAt
-rows t y s [] x =
+sections-open t y s [] x =
     let l = edgeOf (s .left .b) (s .left .a) in
     let r = edgeOf (s .right .a) (s .right .b) in
     omega (
@@ -80,13 +80,13 @@ rows t y s [] x =
       ends-append x l (r ++ []),
       ends-append x r [],
     )
-rows t y s (n ∷ ss) x =
+sections-open t y s (n ∷ ss) x =
     let l = edgeOf (s .left .b) (s .left .a) in
     let r = edgeOf (s .right .a) (s .right .b) in
     let more = sectionEdges (n ∷ ss) in
     omega (
       arith,
-      rows t y n ss x,
+      sections-open t y n ss x,
       corner-joins t y s n .connects x,
       edge-carries (s .left .b) (s .left .a) .carry x,
       edge-carries (s .right .a) (s .right .b) .carry x,
@@ -113,7 +113,7 @@ closes t y (s ∷ ss) = go (y .closed)
     go true = record {
       balance = λ x. omega (
         arith,
-        rows t y s ss x,
+        sections-open t y s ss x,
         corner-joins t y (lastOf s ss) s .connects x,
         ap (startsAt x) (corners-back t y s ss s),
         ap (endsAt x) (corners-back t y s ss s),
@@ -131,7 +131,7 @@ closes t y (s ∷ ss) = go (y .closed)
         record {
           balance = λ x. omega (
             arith,
-            rows t y s ss x,
+            sections-open t y s ss x,
             edge-carries (s .left .a) (s .right .a) .carry x,
             edge-carries (lastOf s ss .right .b) (lastOf s ss .left .b) .carry x,
             ap (λ (l : List Section). startsAt x (cornersFrom t y s l)) (append-nil ss),

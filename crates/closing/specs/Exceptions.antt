@@ -5,7 +5,6 @@ use mathlib.Core.Bool.{Bool, true, false}
 use mathlib.Core.List.{List, [], _∷_}
 use Prim.Native.Nat.{ℕ}
 use lib.IntN.{ℤ, pos, negℤ}
-use Rattle.plane.specs.declared.Point.{Point}
 use Rattle.contacts.specs.declared.Vertex.{Vertex}
 use Rattle.paths.specs.Paths.{pathOf, edgesOf}
 use Rattle.closing.specs.Closing.{startsAt, endsAt, strayOf}

@@ -17,7 +17,7 @@ use Rattle.turning.specs.declared.Turning.{Turning}
 use Rattle.turning.proofs.Most.{most-none, most-up, most-both, most-if, edge-most, turns-most}
 use Rattle.turning.proofs.Rays.{east-some, west-some, eastward-told, westward-told}
 use Rattle.quarter.specs.Rotations.{quarterOf, rotationsOf}
-use Rattle.quarter.specs.Most.{arcMost, ArcMost, CircleMost}
+use Rattle.quarter.specs.Most.{arcMost, SweptMost, ArcMost, CircleMost}
 use Rattle.quarter.proofs.NotCounted.{Stops, arc-stops, half-stops, count-enough, rotations-most}
 
 module _ (g : ℕ) (h : 1 ≤ g) (u : g ≤ 8) where
@@ -59,6 +59,10 @@ module _ (g : ℕ) (h : 1 ≤ g) (u : g ≤ 8) where
           → Most (4 * quarterOf (stepOf g)) (elim x [ true ↦ [] | false ↦ sweptOf (stepOf g) c r (eastOf c r) (westOf c r) ++ sweptOf (stepOf g) c r (westOf c r) (eastOf c r) ])
       go true e = most-none (4 * quarterOf (stepOf g))
       go false e = most-up (omega arith) (most-both (there-few c r e) (back-few c r e))
+
+pub swept-by-grade : SweptMost
+unfolding rotationsOf
+swept-by-grade g c r p q h u = swept-few g h u c r p q
 
 pub circle-by-grade : CircleMost
 unfolding arcMost rotationsOf

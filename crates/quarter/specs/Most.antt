@@ -6,7 +6,7 @@ use lib.IntN.{ℤ}
 use lib.ListN.{length}
 use Rattle.plane.specs.Directions.{stepOf}
 use Rattle.plane.specs.declared.Point.{Point}
-use Rattle.turning.specs.Arcs.{circleOf, arcOf}
+use Rattle.turning.specs.Arcs.{sweptOf, circleOf, arcOf}
 use Rattle.turning.specs.Bounds.{Most}
 use Rattle.turning.specs.declared.Sweep.{Sweep}
 use Rattle.contacts.specs.declared.Vertex.{Vertex}
@@ -17,7 +17,11 @@ use Rattle.variable_stroke.specs.declared.Walk.{Walk}
 use Rattle.paths.specs.Paths.{edgesOf}
 use Rattle.quarter.specs.Rotations.{rotationsOf}
 
--- An arc has as many edges as four quarters have rotations at most. A circle has no more, since each of its halves goes through two; one edge may follow it.
+-- From one point to another about a centre, as a kerb's round corner goes too, there is an edge for each rotation and one more.
+abbrev pub SweptMost : Type 0
+SweptMost = (g : ℕ) (c : Point) (r : ℤ) (p q : Point) → 1 ≤ g → g ≤ 8 → Most (rotationsOf g) (sweptOf (stepOf g) c r p q)
+
+-- A circle has no more, since each of its halves goes through two quarters; in an arc one edge may follow it.
 unfoldable pub arcMost : ℕ → ℕ
 arcMost g = rotationsOf g + 1
 

@@ -14,12 +14,12 @@ use Rattle.turning.specs.declared.Edge.{Edge}
 unfoldable pub excessOf : Vector → ℕ
 excessOf t = natAbs (t .x) + natAbs (t .y) - 2 ^ 30
 
--- While a direction turns within the quarter before another, the dot product of the two less their cross product goes up from -2^60 at least to 2^60 at
--- most, by 2^30 times the excess a rotation, of which rounding takes less than one part in 2^15. So a quarter has fewer rotations than that.
+-- While a direction turns within the quarter before another, the dot product of the two less their cross product lies between -2^60 and 2^60. Each rotation
+-- adds to it 2^30 times the excess at least, but for one part in 2^15, which rounding may take. So fewer rotations than these stay within a quarter.
 unfoldable pub quarterOf : Vector → ℕ
 quarterOf t = 2 ^ 61 / (excessOf t * (2 ^ 30 - 2 ^ 15)) + 1
 
--- An arc goes through four quarters at most: it has fewer rotations than that.
+-- An arc goes through four quarters at most: it has fewer rotations than these.
 unfoldable pub rotationsOf : ℕ → ℕ
 rotationsOf g = 4 * quarterOf (stepOf g)
 

@@ -6,7 +6,7 @@ use Prim.Native.Nat.{ℕ, _+_, _-_, _*_, _/_, _%_, _^_, _≤_, _<_}
 use native.Mathlib.Omega.{arith}
 use native.Mathlib.Nat.{div-div-eq-div-mul, div-add-mod'}
 use lib.Dec.{ltb}
-use lib.IntN.{ℤ, pos, negsuc}
+use lib.IntN.{ℤ, pos, negsuc, natAbs}
 use lib.Signed.{leZ}
 use lib.ListN.{length}
 use borrow.Author.Tests.{leb-true, le-ltb, lt-ltb}
@@ -55,15 +55,18 @@ unfolding wordsOf
 words-fit [] = tt
 words-fit (z ∷ zs) = (word-fits z, words-fit zs)
 
-pub number-back : (z : ℤ) → leZ (negsuc 268435455) z ≡ true → leZ z (pos 268435456) ≡ true → numberOf (wordOf z) ≡ z
+pub number-again : (z : ℤ) → natAbs z ≤ 2 ^ 30 → numberOf (wordOf z) ≡ z
 unfolding numberOf wordOf
-number-back (pos n) h k =
-    let l : n ≤ 268435456 = leb-true n 268435456 k in
+number-again (pos n) l =
     let e : n % 2 ^ 32 ≡ n = omega arith in
     let t : ltb (n % 2 ^ 32) (2 ^ 31) ≡ true = lt-ltb (n % 2 ^ 32) (2 ^ 31) (omega arith) in
     rw (t, numberOf) (ap pos e)
-number-back (negsuc n) h k =
-    let l : n ≤ 268435455 = leb-true n 268435455 h in
+number-again (negsuc n) l =
     let e : 2 ^ 32 - 1 - (2 ^ 32 - 1 - n % 2 ^ 32) ≡ n = omega arith in
     let t : ltb (2 ^ 32 - 1 - n % 2 ^ 32) (2 ^ 31) ≡ false = le-ltb (2 ^ 32 - 1 - n % 2 ^ 32) (2 ^ 31) (omega arith) in
     rw (t, numberOf) (ap negsuc e)
+
+-- a coordinate within the limits
+pub number-back : (z : ℤ) → leZ (negsuc 268435455) z ≡ true → leZ z (pos 268435456) ≡ true → numberOf (wordOf z) ≡ z
+number-back (pos n) h k = number-again (pos n) (omega (arith, leb-true n 268435456 k))
+number-back (negsuc n) h k = number-again (negsuc n) (omega (arith, leb-true n 268435455 h))

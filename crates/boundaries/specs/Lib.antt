@@ -1,0 +1,2 @@
+-- Boundaries that close, as the calls give them.
+pub mod Results

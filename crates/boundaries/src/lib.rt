@@ -1,0 +1,1 @@
+// Boundaries that close, as the calls give them: no code.
