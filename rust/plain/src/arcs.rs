@@ -59,15 +59,42 @@ pub fn interior(step: Point, start: Point, end: Point) -> impl Iterator<Item = P
         .take(MOST_ROTATIONS)
 }
 
-/// Arcs: the arc "counterclockwise from one contact to another about a
-/// vertex". `aligned` is the caller's choice.
-///
-/// "A Minor arc between equal points has no edges; no arc with an end at the
-/// centre has any. A Major arc whose two directions have cross product 0 or
+/// Arcs: what becomes of an arc.
+#[derive(Clone, Copy, Debug, PartialEq, Eq)]
+pub enum Course {
+    /// It has no edges.
+    Nothing,
+    /// A circle of this radius, and the straight edge from start to end.
+    Circle(i64),
+    /// From the one direction to the other, the points between them so far out.
+    Turn(Point, Point, i64),
+}
+
+/// Arcs: "A Minor arc between equal points has no edges; no arc with an end at
+/// the centre has any. A Major arc whose two directions have cross product 0 or
 /// more and dot product above 0 is a circle followed by the straight edge from
 /// start to end; the circle's radius is the integer root of the start ray's
 /// squared length. Otherwise the interior points are the directions …, then
 /// the end contact." They are scaled by that root too (document 02, request 6).
+pub fn course(centre: Point, from: Point, to: Point, aligned: Sweep) -> Course {
+    let (start_ray, end_ray) = (from - centre, to - centre);
+    let sweep = sweep(start_ray, end_ray, aligned);
+    if sweep == Sweep::Minor && from == to {
+        return Course::Nothing;
+    }
+    if start_ray == Point::ORIGIN || end_ray == Point::ORIGIN {
+        return Course::Nothing;
+    }
+    let (start, end) = (direction(start_ray), direction(end_ray));
+    let radius = integer_root(start_ray.squared()) as i64;
+    if sweep == Sweep::Major && start.cross(end) >= 0 && start.dot(end) > 0 {
+        return Course::Circle(radius);
+    }
+    Course::Turn(start, end, radius)
+}
+
+/// Arcs: the arc "counterclockwise from one contact to another about a
+/// vertex". `aligned` is the caller's choice.
 pub fn arc(
     out: &mut Vec<Edge>,
     step: Point,
@@ -76,28 +103,26 @@ pub fn arc(
     to: Point,
     aligned: Sweep,
 ) {
-    let (start_ray, end_ray) = (from - centre, to - centre);
-    let sweep = sweep(start_ray, end_ray, aligned);
-    if sweep == Sweep::Minor && from == to {
-        return;
-    }
-    if start_ray == Point::ORIGIN || end_ray == Point::ORIGIN {
-        return;
-    }
-    let (start, end) = (direction(start_ray), direction(end_ray));
-    let radius = integer_root(start_ray.squared()) as i64;
-    if sweep == Sweep::Major && start.cross(end) >= 0 && start.dot(end) > 0 {
-        circle(out, step, centre, radius);
-        edge(out, from, to);
-        return;
-    }
     let mut reached = from;
-    for current in interior(step, start, end) {
-        let next = centre + Point::new(scale(current.x, radius), scale(current.y, radius));
-        edge(out, reached, next);
-        reached = next;
+    match course(centre, from, to, aligned) {
+        Course::Nothing => return,
+        Course::Circle(radius) => circle(out, step, centre, radius),
+        Course::Turn(start, end, radius) => {
+            for current in interior(step, start, end) {
+                let next = centre + Point::new(scale(current.x, radius), scale(current.y, radius));
+                edge(out, reached, next);
+                reached = next;
+            }
+        }
     }
     edge(out, reached, to);
+}
+
+/// Arcs: the ends of a circle's two arcs, "centre + (radius, 0)" and "centre -
+/// (radius, 0)".
+pub fn ends_of_halves(centre: Point, radius: i64) -> (Point, Point) {
+    let across = Point::new(radius, 0);
+    (centre + across, centre - across)
 }
 
 /// Arcs: "A circle of radius 1 or less has no edges; else it is two arcs, from
@@ -106,10 +131,29 @@ pub fn circle(out: &mut Vec<Edge>, step: Point, centre: Point, radius: i64) {
     if radius <= 1 {
         return;
     }
-    let across = Point::new(radius, 0);
-    let (right, left) = (centre + across, centre - across);
+    let (right, left) = ends_of_halves(centre, radius);
     arc(out, step, centre, right, left, Sweep::Minor);
     arc(out, step, centre, left, right, Sweep::Minor);
+}
+
+/// Arcs: how many rotations an arc takes, or the longer half of the circle that
+/// it is.
+pub fn rotations(step: Point, centre: Point, from: Point, to: Point, aligned: Sweep) -> usize {
+    match course(centre, from, to, aligned) {
+        Course::Nothing => 0,
+        Course::Circle(radius) => rotations_of_circle(step, centre, radius),
+        Course::Turn(start, end, _) => interior(step, start, end).count(),
+    }
+}
+
+/// Arcs: how many rotations the longer half of a circle takes.
+pub fn rotations_of_circle(step: Point, centre: Point, radius: i64) -> usize {
+    if radius <= 1 {
+        return 0;
+    }
+    let (right, left) = ends_of_halves(centre, radius);
+    let half = |from, to| rotations(step, centre, from, to, Sweep::Minor);
+    half(right, left).max(half(left, right))
 }
 
 #[cfg(test)]

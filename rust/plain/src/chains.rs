@@ -11,9 +11,38 @@ pub enum Cap {
     Round,
 }
 
+/// What takes down a path's drawing: edges, arcs and circles, in the order in
+/// which the rules emit them.
+pub trait Pen {
+    fn edge(&mut self, from: Point, to: Point);
+
+    fn arc(&mut self, step: Point, centre: Point, from: Point, to: Point, aligned: Sweep);
+
+    fn circle(&mut self, step: Point, centre: Point, radius: i64);
+
+    /// The arc of a join, which is drawn as every arc is.
+    fn join_arc(&mut self, step: Point, centre: Point, from: Point, to: Point, aligned: Sweep) {
+        self.arc(step, centre, from, to, aligned);
+    }
+}
+
+impl Pen for Vec<Edge> {
+    fn edge(&mut self, from: Point, to: Point) {
+        edge(self, from, to);
+    }
+
+    fn arc(&mut self, step: Point, centre: Point, from: Point, to: Point, aligned: Sweep) {
+        arc(self, step, centre, from, to, aligned);
+    }
+
+    fn circle(&mut self, step: Point, centre: Point, radius: i64) {
+        circle(self, step, centre, radius);
+    }
+}
+
 /// Chains, start cap: "Butt is a_left to a_right; Round is an arc that way,
 /// Major if aligned and decreasing, else Minor."
-pub fn start_cap(out: &mut Vec<Edge>, step: Point, section: &Section, cap: Cap) {
+pub fn start_cap(out: &mut impl Pen, step: Point, section: &Section, cap: Cap) {
     let (from, to) = (section.a_left, section.a_right);
     let aligned = if section.trend == Trend::Decreasing {
         Sweep::Major
@@ -21,15 +50,13 @@ pub fn start_cap(out: &mut Vec<Edge>, step: Point, section: &Section, cap: Cap) 
         Sweep::Minor
     };
     match cap {
-        Cap::Butt => edge(out, from, to),
-        Cap::Round => {
-            arc(out, step, section.a.centre(), from, to, aligned);
-        }
+        Cap::Butt => out.edge(from, to),
+        Cap::Round => out.arc(step, section.a.centre(), from, to, aligned),
     }
 }
 
 /// Chains, end cap: "b_right to b_left, Major if aligned and increasing."
-pub fn end_cap(out: &mut Vec<Edge>, step: Point, section: &Section, cap: Cap) {
+pub fn end_cap(out: &mut impl Pen, step: Point, section: &Section, cap: Cap) {
     let (from, to) = (section.b_right, section.b_left);
     let aligned = if section.trend == Trend::Increasing {
         Sweep::Major
@@ -37,10 +64,8 @@ pub fn end_cap(out: &mut Vec<Edge>, step: Point, section: &Section, cap: Cap) {
         Sweep::Minor
     };
     match cap {
-        Cap::Butt => edge(out, from, to),
-        Cap::Round => {
-            arc(out, step, section.b.centre(), from, to, aligned);
-        }
+        Cap::Butt => out.edge(from, to),
+        Cap::Round => out.arc(step, section.b.centre(), from, to, aligned),
     }
 }
 
@@ -50,7 +75,7 @@ pub fn end_cap(out: &mut Vec<Edge>, step: Point, section: &Section, cap: Cap) {
 /// left > 0 or prev × next centre line < 0, else an edge. Then prev.b_right to
 /// next.a_right, an arc (Major if aligned) when prev right × next right > 0 or
 /// prev × next centre line ≥ 0, else an edge."
-pub fn join(out: &mut Vec<Edge>, step: Point, prev: &Section, next: &Section) {
+pub fn join(out: &mut impl Pen, step: Point, prev: &Section, next: &Section) {
     let centre = prev.b.centre();
     if centre != next.a.centre() {
         end_cap(out, step, prev, Cap::Butt);
@@ -65,15 +90,15 @@ pub fn join(out: &mut Vec<Edge>, step: Point, prev: &Section, next: &Section) {
 
     let (from, to) = (next.a_left, prev.b_left);
     if next_left.cross(prev_left) > 0 || bend < 0 {
-        arc(out, step, centre, from, to, Sweep::Minor);
+        out.join_arc(step, centre, from, to, Sweep::Minor);
     } else {
-        edge(out, from, to);
+        out.edge(from, to);
     }
     let (from, to) = (prev.b_right, next.a_right);
     if prev_right.cross(next_right) > 0 || bend >= 0 {
-        arc(out, step, centre, from, to, Sweep::Major);
+        out.join_arc(step, centre, from, to, Sweep::Major);
     } else {
-        edge(out, from, to);
+        out.edge(from, to);
     }
 }
 
@@ -100,9 +125,9 @@ impl Chain {
 
     /// Chains: "edges b_left to a_left, a_right to b_right; then a join to the
     /// chain's last section, or the start cap."
-    pub fn draw(&mut self, out: &mut Vec<Edge>, step: Point, section: Section) {
-        edge(out, section.b_left, section.a_left);
-        edge(out, section.a_right, section.b_right);
+    pub fn draw(&mut self, out: &mut impl Pen, step: Point, section: Section) {
+        out.edge(section.b_left, section.a_left);
+        out.edge(section.a_right, section.b_right);
         match &self.last {
             Some(last) => join(out, step, last, &section),
             None => start_cap(out, step, &section, self.cap),
@@ -113,11 +138,11 @@ impl Chain {
     /// Chains, finish: "the end cap if there is a last section; otherwise a
     /// circle at the start vertex if no step was marked and not both caps are
     /// Butt."
-    pub fn finish(&self, out: &mut Vec<Edge>, step: Point, cap: Cap) {
+    pub fn finish(&self, out: &mut impl Pen, step: Point, cap: Cap) {
         if let Some(last) = &self.last {
             end_cap(out, step, last, cap);
         } else if !self.marked && (self.cap, cap) != (Cap::Butt, Cap::Butt) {
-            circle(out, step, self.start.centre(), self.start.radius);
+            out.circle(step, self.start.centre(), self.start.radius);
         }
     }
 }
@@ -149,18 +174,12 @@ pub struct Drawing {
 }
 
 /// Chains: "The first chain starts Round at the first vertex. For each next
-/// vertex b: … At the end, finish with the closing cap."
-pub fn walk(path: &[Vertex], grade: u32) -> Drawing {
+/// vertex b: … At the end, finish with the closing cap." Where a body is whole,
+/// `ended` is told.
+pub fn trace<P: Pen>(path: &[Vertex], grade: u32, out: &mut P, mut ended: impl FnMut(&P)) {
     let step = step_of_grade(grade);
-    let mut edges = Vec::new();
-    let mut counts = Vec::with_capacity(path.len() + 1);
-    let mut counted = 0;
-    let mut count = |edges: &Vec<Edge>| {
-        counts.push((edges.len() - counted) as u32);
-        counted = edges.len();
-    };
     if let Some(&first) = path.first() {
-        count(&edges);
+        ended(out);
         let mut chain = Chain::start(first, Cap::Round);
         let mut previous = None;
         let mut closing = Cap::Round;
@@ -170,27 +189,38 @@ pub fn walk(path: &[Vertex], grade: u32) -> Drawing {
             closing = Cap::Round;
             if kind == Kind::Broken {
                 let (end, start) = caps_of_a_break(a, b);
-                chain.finish(&mut edges, step, end);
+                chain.finish(out, step, end);
                 chain = Chain::start(b, start);
             } else {
                 if covered(previous.as_ref(), b) {
-                    chain.finish(&mut edges, step, Cap::Round);
+                    chain.finish(out, step, Cap::Round);
                     chain = Chain::start(a, Cap::Butt);
                     closing = Cap::Butt;
                 }
                 chain.marked = true;
                 if kind == Kind::Drawn {
                     let section = Section::new(a, b);
-                    chain.draw(&mut edges, step, section);
+                    chain.draw(out, step, section);
                     drawn = Some(section);
                 }
             }
             previous = drawn;
-            count(&edges);
+            ended(out);
         }
-        chain.finish(&mut edges, step, closing);
+        chain.finish(out, step, closing);
     }
-    count(&edges);
+    ended(out);
+}
+
+/// The edges of a path, and its bodies' counts.
+pub fn walk(path: &[Vertex], grade: u32) -> Drawing {
+    let mut edges = Vec::new();
+    let mut counts = Vec::with_capacity(path.len() + 1);
+    let mut counted = 0;
+    trace(path, grade, &mut edges, |edges: &Vec<Edge>| {
+        counts.push((edges.len() - counted) as u32);
+        counted = edges.len();
+    });
     Drawing { edges, counts }
 }
 

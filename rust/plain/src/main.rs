@@ -1,8 +1,10 @@
 //! Lists of cases and their answers, one case and one answer a line.
 
 mod answers;
+mod balance;
 mod cases;
 
+use balance::Tally;
 use std::io::{self, BufRead, BufWriter, Write};
 use std::process::ExitCode;
 
@@ -12,23 +14,44 @@ plain numbers-cases
 plain arcs < cases > answers
 plain arcs-cases
 plain calls < cases > answers
-plain calls-cases SEED COUNT (0 0 prints the fixed list)";
+plain calls-cases SEED COUNT (0 0 prints the fixed list)
+plain closing < cases of calls
+plain closing-cases SEED COUNT";
+
+/// Hands over each line of the standard input, as numbers.
+fn each_case(mut take: impl FnMut(&[i128]) -> Result<(), String>) -> io::Result<()> {
+    for (line, text) in io::stdin().lock().lines().enumerate() {
+        let text = text?;
+        let numbers = text.split_whitespace().map(|word| word.parse().ok());
+        let numbers = numbers.collect::<Option<Vec<i128>>>();
+        let taken = match numbers {
+            Some(case) => take(&case),
+            None => Err("it is no case".to_string()),
+        };
+        if let Err(reason) = taken {
+            let message = format!("line {}: {reason}", line + 1);
+            return Err(io::Error::new(io::ErrorKind::InvalidData, message));
+        }
+    }
+    Ok(())
+}
 
 /// Answers each line of the standard input.
 fn answer(answer: impl Fn(&[i128]) -> Option<String>) -> io::Result<()> {
     let mut out = BufWriter::new(io::stdout().lock());
-    for (line, text) in io::stdin().lock().lines().enumerate() {
-        let numbers: Option<Vec<i128>> = text?
-            .split_whitespace()
-            .map(|word| word.parse().ok())
-            .collect();
-        let Some(answer) = numbers.and_then(|case| answer(&case)) else {
-            let message = format!("line {} is no case", line + 1);
-            return Err(io::Error::new(io::ErrorKind::InvalidData, message));
-        };
-        writeln!(out, "{answer}")?;
-    }
+    each_case(|case| {
+        let answer = answer(case).ok_or("it is no case")?;
+        writeln!(out, "{answer}").map_err(|error| error.to_string())
+    })?;
     out.flush()
+}
+
+/// Counts whether all that the cases on standard input draw is balanced.
+fn close() -> io::Result<()> {
+    let mut tally = Tally::default();
+    each_case(|case| tally.count(case))?;
+    println!("{tally}");
+    Ok(())
 }
 
 /// Prints a list of cases.
@@ -49,6 +72,11 @@ fn run(words: &[&str]) -> Option<io::Result<()>> {
         ["calls"] => answer(answers::calls),
         ["calls-cases", "0", "0"] => print(cases::calls::fixed()),
         ["calls-cases", seed, count] => print(cases::calls::random(
+            seed.parse().ok()?,
+            count.parse().ok()?,
+        )),
+        ["closing"] => close(),
+        ["closing-cases", seed, count] => print(cases::closing::random(
             seed.parse().ok()?,
             count.parse().ok()?,
         )),

@@ -2,6 +2,7 @@
 
 pub mod arcs;
 pub mod calls;
+pub mod closing;
 pub mod numbers;
 
 /// A case: numbers with one space between them.
