@@ -1,10 +1,12 @@
 //! The page: where its panels stand, and all that it shows.
 
 use super::frame::{roomy, Frame};
+use super::region::Loops;
 use super::view::{Panel, View};
 use super::{bounds, panel, title, Shown};
 use crate::changes::Changes;
 use crate::sheet::Sheet;
+use std::iter::zip;
 
 const STYLE: &str = include_str!("style.css");
 
@@ -37,10 +39,12 @@ pub fn of_one(sheet: &Sheet) -> String {
         vertices: vec![false; sheet.vertices().len()],
         bodies: vec![false; sheet.bodies().len()],
     };
+    let region = Loops::of(sheet);
     let shown = Shown {
         before: sheet,
         after: sheet,
         changes: &changes,
+        region: region.as_ref(),
     };
     let heading = words("title", 20, 34, &title::of_one(sheet));
     fitted(&page_of_one(frame_of(shown)), shown, &heading)
@@ -48,10 +52,12 @@ pub fn of_one(sheet: &Sheet) -> String {
 
 /// The picture of two sheets with as many vertices, and of what differs.
 pub fn of_two(before: &Sheet, after: &Sheet, changes: &Changes) -> String {
+    let region = Loops::of(after);
     let shown = Shown {
         before,
         after,
         changes,
+        region: region.as_ref(),
     };
     let heading = words("title", 20, 28, &title::of_two(before, after))
         + &words("told", 20, 48, &title::of_changes(shown));
@@ -109,28 +115,36 @@ fn page_of_two(frame: Frame, changed: Frame) -> Page {
     }
 }
 
-/// The page drawn with the finest pen that keeps its lines few enough; where
-/// points are left out, a note says so.
+/// The page drawn with the finest pen that keeps its lines few enough. Notes
+/// say what is not as it might be: points left out, a region not filled.
 fn fitted(page: &Page, shown: Shown, heading: &str) -> String {
     let mut panels = String::new();
-    let mut note = String::new();
+    let mut shortcuts = None;
     for (tolerance, most) in PENS {
         let (text, lines) = drawn(page, shown, tolerance);
         panels = text;
         if tolerance > 0 {
-            let told = title::of_shortcuts(shown, tolerance, lines);
-            note = words("note", 20, page.tall - 6, &told);
+            shortcuts = Some(title::of_shortcuts(shown, tolerance, lines));
         }
         if lines <= most {
             break;
         }
     }
+    let unfilled = shown.region.is_none().then(title::of_unfilled);
+    let notes = notes(page, [shortcuts, unfilled]);
     let Page { wide, tall, .. } = page;
     format!(
         "<svg xmlns=\"http://www.w3.org/2000/svg\" viewBox=\"0 0 {wide} {tall}\" \
          width=\"{wide}\" height=\"{tall}\">\n<style>\n{STYLE}</style>\n\
-         <rect width=\"100%\" height=\"100%\" fill=\"#fff\"/>\n{heading}{panels}{note}</svg>\n"
+         <rect width=\"100%\" height=\"100%\" fill=\"#fff\"/>\n{heading}{panels}{notes}</svg>\n"
     )
+}
+
+/// Notes at the foot of the page, one above the other.
+fn notes(page: &Page, notes: [Option<String>; 2]) -> String {
+    let feet = [page.tall - 6, page.tall - 20].into_iter();
+    let note = |(told, foot): (String, i64)| words("note", 20, foot, &told);
+    zip(notes.into_iter().flatten(), feet).map(note).collect()
 }
 
 /// A page's panels, and how many lines their edges have.

@@ -10,12 +10,14 @@ mod layout;
 mod lines;
 mod panel;
 mod pen;
+mod region;
 mod shortcut;
 mod title;
 mod view;
 
 use crate::changes::Changes;
 use crate::sheet::Sheet;
+use region::Loops;
 
 pub use layout::{of_one, of_two};
 
@@ -26,6 +28,8 @@ struct Shown<'a> {
     before: &'a Sheet,
     after: &'a Sheet,
     changes: &'a Changes,
+    /// What `after` encloses, if its edges chain.
+    region: Option<&'a Loops>,
 }
 
 impl Shown<'_> {

@@ -30,18 +30,20 @@ pub fn begin(panel: Panel, view: View, shown: Shown, tolerance: i64) -> (String,
     (text, lines)
 }
 
-/// The edges of the bodies that stayed as they were, and those of the others as
-/// they were and as they are.
+/// The boundary, filled where it closes, and over it the edges of the bodies
+/// that changed, as they were and as they are.
 fn edges(view: View, shown: Shown, tolerance: i64) -> (String, usize) {
-    let marks = &shown.changes.bodies;
-    let mut classes = vec![("edge", shown.after, false)];
+    let marked = |sheet, wanted| bodies(view, tolerance, sheet, &shown.changes.bodies, wanted);
+    let mut paths = vec![match shown.region {
+        Some(region) => ("edge region", region.drawn(view, tolerance)),
+        None => ("edge", marked(shown.after, false)),
+    }];
     if shown.any_changed() {
-        classes.push(("was", shown.before, true));
-        classes.push(("now", shown.after, true));
+        paths.push(("was", marked(shown.before, true)));
+        paths.push(("now", marked(shown.after, true)));
     }
     let (mut text, mut count) = (String::new(), 0);
-    for (class, sheet, wanted) in classes {
-        let (data, lines) = bodies(view, tolerance, sheet, marks, wanted);
+    for (class, (data, lines)) in paths {
         text += &format!("<path class=\"{class}\" d=\"{data}\"/>\n");
         count += lines;
     }

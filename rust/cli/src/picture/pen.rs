@@ -40,9 +40,13 @@ impl Pen {
 
     /// Draws a line, if the view shows something of it.
     pub fn line(&mut self, start: Point, end: Point) {
-        if !self.view.shows(of_line(start, end)) {
-            return;
+        if self.view.shows(of_line(start, end)) {
+            self.line_anywhere(start, end);
         }
+    }
+
+    /// Draws a line, to be seen or not.
+    pub fn line_anywhere(&mut self, start: Point, end: Point) {
         let to = self.view.spot(end);
         let run = match self.run.take() {
             Some((run, at)) if at == start => self.go_on(run, to),

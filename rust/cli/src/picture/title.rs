@@ -64,3 +64,8 @@ pub fn of_shortcuts(shown: Shown, tolerance: i64, lines: usize) -> String {
         number(shown.after.edge_count())
     )
 }
+
+/// What is said where the boundary does not close.
+pub fn of_unfilled() -> String {
+    "not filled: a join's arc has one end at its centre, and the edges do not close".to_string()
+}
