@@ -1,0 +1,1 @@
+// What the calls on a chunk leave in it: no code.

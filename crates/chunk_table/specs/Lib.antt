@@ -1,0 +1,4 @@
+-- What the contracts cite.
+pub mod Orders
+pub mod Search
+pub mod Tables

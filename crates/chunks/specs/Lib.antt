@@ -1,0 +1,4 @@
+-- What the contracts cite.
+pub mod Answers
+pub mod Calls
+pub mod Chunks
