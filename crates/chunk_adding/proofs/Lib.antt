@@ -1,0 +1,4 @@
+-- The crate's own laws.
+pub mod Added
+pub mod AfterAdd
+pub mod StorePassed

@@ -1,0 +1,3 @@
+-- What the contracts cite, and the theorems.
+pub mod Adding
+pub mod Theorems
