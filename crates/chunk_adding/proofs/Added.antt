@@ -6,20 +6,23 @@ use Prim.Native.Nat.{ℕ, _-_, _≤_}
 use native.Mathlib.Nat.{sub-zero}
 use native.Mathlib.Omega.{arith}
 use lib.IntN.{ℤ}
-use lib.Dec.{eqb}
 use lib.ListN.{length, take}
 use lib.Seq.{length-take-le}
-use Rattle.replies.specs.Replies.{Reply, firstRow}
 use Rattle.replies.specs.Refusals.{refusalOf}
+use Rattle.replies.specs.Replies.{Reply, firstRow}
 use Rattle.outline.specs.Layout.{lengthOf}
 use Rattle.outline.specs.Stores.{lengthIn}
-use Rattle.checking.specs.StoreRows.{storeRows}
 use Rattle.checking.specs.StoreChecks.{Sound, StoreSays}
+use Rattle.checking.specs.StoreRows.{storeRows}
 use Rattle.chunk_table.specs.Tables.{damagedIn}
-use Rattle.chunks.specs.Chunks.{gapIn}
-use Rattle.chunks.specs.Calls.{tableRow, putRows, putReply, putOut, addedIn, changed}
 use Rattle.chunks.specs.Answers.{replyOfDone, PutsOutline}
+use Rattle.chunks.specs.Calls.{tableRow, putRows, putReply, putOut, addedIn, changed}
+use Rattle.chunks.specs.Chunks.{gapIn}
 use Rattle.chunk_adding.specs.Adding.{ownBytes, addReply, addOut, AddsOutline, OneAdding}
+use Rattle.replies.proofs.Rows.{refusal-some}
+use Rattle.checking.proofs.StoreReads.{store-refuses, store-passes, header-length}
+use Rattle.chunks.proofs.Answered.{kept-chunk}
+use Rattle.chunks.proofs.OneOutcome.{one-done}
 use Rattle.replies.specs.declared.Refusal.{Refusal}
 use Rattle.replies.specs.declared.Refusal.the-variants.{Damaged}
 use Rattle.checking.specs.declared.Header.{Header}
@@ -27,10 +30,6 @@ use Rattle.checking.specs.declared.Checked.{Checked}
 use Rattle.checking.specs.declared.Checked.the-variants.{Refused}
 use Rattle.chunks.specs.declared.Done.{Done}
 use Rattle.chunks.specs.declared.Done.the-variants as done
-use Rattle.replies.proofs.Rows.{refusal-some}
-use Rattle.checking.proofs.StoreReads.{store-refuses, store-passes, header-length}
-use Rattle.chunks.proofs.Answered.{kept-chunk}
-use Rattle.chunks.proofs.OneOutcome.{one-done}
 
 module _ (c : List ℕ) (key : ℕ) (s : List ℕ) where
   pub reply-damaged : damagedIn c ≡ true → addReply c key s ≡ (14, 0)

@@ -6,9 +6,9 @@ use lib.ListN.{take}
 use Rattle.replies.specs.Replies.{Reply, firstRow}
 use Rattle.outline.specs.Stores.{lengthIn}
 use Rattle.checking.specs.StoreRows.{storeRows}
-use Rattle.chunks.specs.Chunks.{gapIn}
-use Rattle.chunks.specs.Calls.{tableRow, putRows, addedIn, changed}
 use Rattle.chunks.specs.Answers.{replyOfDone}
+use Rattle.chunks.specs.Calls.{tableRow, putRows, addedIn, changed}
+use Rattle.chunks.specs.Chunks.{gapIn}
 use Rattle.chunks.specs.declared.Done.{Done}
 
 -- the outline's own bytes: lent bytes may go on after it

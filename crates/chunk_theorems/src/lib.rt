@@ -1,0 +1,1 @@
+// A vertex replaced in an outline of a chunk: no code.
