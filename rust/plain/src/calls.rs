@@ -151,6 +151,11 @@ fn kept_path(store: &[u8]) -> Result<Kept, Reply> {
     }
 }
 
+/// The length of the sound outline that a store begins with, or the refusal.
+pub(crate) fn kept_length(store: &[u8]) -> Result<usize, Reply> {
+    kept_path(store).map(|kept| kept.length)
+}
+
 /// A call's reply, whether it refused or not.
 pub(crate) fn settle(call: impl FnOnce() -> Result<Reply, Reply>) -> Reply {
     call().unwrap_or_else(|refusal| refusal)

@@ -12,12 +12,14 @@
 //! * [`calls`] holds the four calls, "Replies, tested in this order", document
 //!   02's request 9, "No silent nothing", and how far replacing a vertex shows
 //! * [`oldest`] holds document 02's request 5, "The oldest chunks"
+//! * [`chunks`] holds document 02's request 8, "Many outlines in one chunk"
 //! * [`closing`] holds document 02's request 12, "Boundaries that close"
 //! * [`random`] holds the generator behind the tests and the lists of cases
 
 pub mod arcs;
 pub mod calls;
 pub mod chains;
+pub mod chunks;
 pub mod closing;
 pub mod contacts;
 pub mod numbers;
