@@ -101,6 +101,10 @@ enum sehmelir_reply_number {
     SEHMELIR_NOT_SOUND = 8,     /* the outline is not sound */
     SEHMELIR_NO_VERTEX = 9,     /* the outline has no vertex of that index */
     SEHMELIR_NOT_TAKEN = 13,    /* a number of the oldest chunks is not taken */
+    SEHMELIR_DAMAGED = 14,      /* the chunk's table is damaged */
+    SEHMELIR_KEY_THERE = 15,    /* the key is in the chunk already */
+    SEHMELIR_KEY_MISSING = 16,  /* the key is not in the chunk */
+    SEHMELIR_TABLE_FULL = 17,   /* all entries of the chunk are in use */
     SEHMELIR_WITHOUT_EDGES = 18 /* the path has vertices and no edges */
 };
 
@@ -355,6 +359,127 @@ struct sehmelir_reply sehmelir_import(const float *numbers, size_t numbers_len,
  */
 struct sehmelir_reply sehmelir_export(const int32_t *path, size_t path_len,
                                       float *out, size_t out_len);
+
+/* The limits of a chunk, and the bytes of a table of so many entries. */
+#define SEHMELIR_MOST_ENTRIES 1024
+#define SEHMELIR_MOST_CHUNK_BYTES 4294967295
+#define SEHMELIR_TABLE_BYTES(entries) ((size_t)4 + (size_t)12 * (entries))
+
+/*
+ * A chunk holds many outlines, each under a key. A table stands first, in
+ * 32-bit little-endian words: the number of entries, and for each its key,
+ * offset and length in bytes; an entry of length 0 is empty, whatever key and
+ * offset it has. All else is in the caller's bytes: nothing of a chunk is kept
+ * elsewhere.
+ *
+ * The table is damaged exactly if the chunk has above 4,294,967,295 bytes or
+ * under 4, or the table has above 1,024 entries or runs past the chunk, or one
+ * key is in use twice, or an entry in use overlaps the table or another entry
+ * in use or leaves the chunk. Each call but sehmelir_chunk_make looks at the
+ * whole table again. Keys are the caller's; every 32-bit word is one.
+ *
+ * A vertex of an outline in a chunk is replaced by lending sehmelir_replace
+ * the bytes that sehmelir_chunk_find tells, and no others: chunk + offset, and
+ * length. The entry keeps its length then, with zeros after an outline that
+ * shrank. What outgrows those bytes is refused with 5, and goes in by
+ * sehmelir_chunk_remove and sehmelir_chunk_add.
+ */
+
+/* Where a part of lent memory stands. */
+struct sehmelir_part {
+    uint32_t reply;  /* one of enum sehmelir_reply_number */
+    uint32_t zero;   /* 0 */
+    uint64_t number; /* what it means stands with each reply, below */
+    uint64_t offset; /* where the part begins; 0 after a refusal */
+    uint64_t length; /* its length; 0 after a refusal */
+};
+
+/*
+ * Makes a chunk: writes the number of entries, and zeros for each of them. The
+ * bytes after the table stay as they were.
+ *
+ * The first of these that applies is the reply:
+ *
+ *    14 SEHMELIR_DAMAGED      entries is above 1,024, the table would run past
+ *                             the chunk, or chunk_len is above 4,294,967,295
+ *                             number: 0
+ *     0 SEHMELIR_DONE         the empty table stands in the chunk
+ *                             number: its bytes
+ */
+struct sehmelir_reply sehmelir_chunk_make(uint8_t *chunk, size_t chunk_len,
+                                          uint32_t entries);
+
+/*
+ * Adds a sound outline under a key, in the first empty entry and at the lowest
+ * gap that holds it. Where no gap does, the chunk is compacted first, as by
+ * sehmelir_chunk_compact. The bytes lent as `outline` begin with the outline and
+ * may go on after it; its own bytes alone are stored, unchanged.
+ *
+ * The first of these that applies is the reply:
+ *
+ *    14 SEHMELIR_DAMAGED      the table is damaged
+ *                             number: 0
+ *     6, 7, 3, 2, 6, 4, 8     those of sehmelir_read, of the outline, but 5
+ *    15 SEHMELIR_KEY_THERE    the key is in use
+ *                             number: the key
+ *    17 SEHMELIR_TABLE_FULL   no entry is empty
+ *                             number: the entries
+ *     5 SEHMELIR_NO_ROOM      there is no room for it, compacted or not
+ *                             number: the outline's bytes
+ *     0 SEHMELIR_DONE         the outline stands in the chunk
+ *                             number: its bytes
+ *
+ * After a refusal the chunk is as it was, not compacted. Takes up to 256 KiB of
+ * stack.
+ */
+struct sehmelir_reply sehmelir_chunk_add(uint8_t *chunk, size_t chunk_len,
+                                         uint32_t key, const uint8_t *outline,
+                                         size_t outline_len);
+
+/*
+ * Finds the outline of a key.
+ *
+ * The first of these that applies is the reply:
+ *
+ *    14 SEHMELIR_DAMAGED      the table is damaged
+ *                             number: 0
+ *    16 SEHMELIR_KEY_MISSING  the key is not in use
+ *                             number: the key
+ *     0 SEHMELIR_DONE         the outline stands at `offset`, in `length` bytes
+ *                             number: the length
+ *
+ * The chunk is only read.
+ */
+struct sehmelir_part sehmelir_chunk_find(const uint8_t *chunk, size_t chunk_len,
+                                         uint32_t key);
+
+/*
+ * Removes the outline of a key: its entry and its bytes become 0.
+ *
+ * The first of these that applies is the reply:
+ *
+ *    14 SEHMELIR_DAMAGED      the table is damaged
+ *                             number: 0
+ *    16 SEHMELIR_KEY_MISSING  the key is not in use
+ *                             number: the key
+ *     0 SEHMELIR_DONE         entry and outline are zeros
+ *                             number: the bytes that the entry had
+ */
+struct sehmelir_reply sehmelir_chunk_remove(uint8_t *chunk, size_t chunk_len,
+                                            uint32_t key);
+
+/*
+ * Moves the outlines together, in the order in which they stand, straight after
+ * the table; the one gap is then at the end, and all of it becomes 0. Words of
+ * empty entries stay as they were.
+ *
+ * The first of these that applies is the reply:
+ *
+ *    14 SEHMELIR_DAMAGED      the table is damaged
+ *                             number: 0
+ *     0 SEHMELIR_DONE         number: the bytes before the gap
+ */
+struct sehmelir_reply sehmelir_chunk_compact(uint8_t *chunk, size_t chunk_len);
 
 #ifdef __cplusplus
 }

@@ -1,7 +1,7 @@
 /*
  * The calls from C, on one path: document 01's example 5, and how far a vertex
- * reaches on a few more; then the oldest chunks. One line for each check; the
- * exit status is 1 if one of them fails.
+ * reaches on a few more; then the oldest chunks, and many outlines in one chunk.
+ * One line for each check; the exit status is 1 if one of them fails.
  */
 #include "sehmelir.h"
 
@@ -414,6 +414,119 @@ static void check_export(void) {
           "export writes the floats, zero for minus zero, and nothing else");
 }
 
+/* Room for the table of two entries, the outline twice, and a gap. */
+enum { TABLE = SEHMELIR_TABLE_BYTES(2), CHUNK = TABLE + 2 * OUTLINE + 8 };
+
+/* A lent chunk, canaries on both sides. */
+struct chunk {
+    uint8_t before[CANARIES];
+    uint8_t lent[CHUNK];
+    uint8_t after[CANARIES];
+};
+
+static void check_part(struct sehmelir_part given, uint32_t reply,
+                       uint64_t number, uint64_t offset, uint64_t length,
+                       const char *what) {
+    bool same = given.reply == reply && given.zero == 0 &&
+                given.number == number && given.offset == offset &&
+                given.length == length;
+    check(same, what);
+    if (!same)
+        printf("  reply %lu zero %lu number %llu offset %llu length %llu\n",
+               (unsigned long)given.reply, (unsigned long)given.zero,
+               (unsigned long long)given.number,
+               (unsigned long long)given.offset,
+               (unsigned long long)given.length);
+}
+
+/* An entry of the table, by hand. */
+static void put_entry(struct chunk *chunk, size_t place, uint32_t key,
+                      uint32_t offset, uint32_t length) {
+    uint8_t *at = chunk->lent + SEHMELIR_TABLE_BYTES(place);
+    put_word(at, (int32_t)key);
+    put_word(at + 4, (int32_t)offset);
+    put_word(at + 8, (int32_t)length);
+}
+
+static void check_chunk_refusals(void) {
+    struct chunk chunk, expected;
+    uint8_t none = 0;
+    fill(&chunk, sizeof chunk);
+    expected = chunk;
+
+    check_reply(sehmelir_chunk_make(chunk.lent, CHUNK, 1025), SEHMELIR_DAMAGED,
+                0, 0, "a chunk of 1,025 entries");
+    check_reply(sehmelir_chunk_make(chunk.lent, TABLE - 1, 2), SEHMELIR_DAMAGED,
+                0, 0, "a table that runs past the chunk");
+    memset(chunk.lent, 255, 4);
+    memset(expected.lent, 255, 4);
+    check_reply(sehmelir_chunk_add(chunk.lent, CHUNK, 7, &none, 0),
+                SEHMELIR_DAMAGED, 0, 0, "adding to a damaged table");
+    check_part(sehmelir_chunk_find(chunk.lent, CHUNK, 7), SEHMELIR_DAMAGED, 0,
+               0, 0, "finding in a damaged table");
+    check_reply(sehmelir_chunk_remove(chunk.lent, CHUNK, 7), SEHMELIR_DAMAGED,
+                0, 0, "removing from a damaged table");
+    check_reply(sehmelir_chunk_compact(chunk.lent, 3), SEHMELIR_DAMAGED, 0, 0,
+                "compacting three bytes");
+    check(memcmp(&chunk, &expected, sizeof chunk) == 0,
+          "refusals of a damaged table change nothing");
+}
+
+static void check_chunk(void) {
+    struct chunk chunk, expected;
+    uint8_t store[OUTLINE];
+    put_outline(store);
+    fill(&chunk, sizeof chunk);
+    expected = chunk;
+
+    check_reply(sehmelir_chunk_make(chunk.lent, CHUNK, 2), SEHMELIR_DONE, TABLE,
+                0, "a chunk of two entries is made");
+    memset(expected.lent, 0, TABLE);
+    expected.lent[0] = 2;
+    check(memcmp(&chunk, &expected, sizeof chunk) == 0,
+          "making writes the table and nothing else");
+
+    check_reply(sehmelir_chunk_add(chunk.lent, CHUNK, 7, store, OUTLINE - 1),
+                SEHMELIR_NOT_OUTLINE, 0, 0, "a cut outline is not added");
+    check_reply(sehmelir_chunk_add(chunk.lent, CHUNK, 7, store, OUTLINE),
+                SEHMELIR_DONE, OUTLINE, 0, "an outline is added");
+    put_entry(&expected, 0, 7, TABLE, OUTLINE);
+    memcpy(expected.lent + TABLE, store, OUTLINE);
+    check_reply(sehmelir_chunk_add(chunk.lent, CHUNK, 7, store, OUTLINE),
+                SEHMELIR_KEY_THERE, 7, 0, "no key is added twice");
+    check_reply(sehmelir_chunk_add(chunk.lent, CHUNK - 9, 8, store, OUTLINE),
+                SEHMELIR_NO_ROOM, OUTLINE, 0, "adding is refused one byte short");
+    check_reply(sehmelir_chunk_add(chunk.lent, CHUNK, 8, store, OUTLINE),
+                SEHMELIR_DONE, OUTLINE, 0, "a second one is added");
+    put_entry(&expected, 1, 8, TABLE + OUTLINE, OUTLINE);
+    memcpy(expected.lent + TABLE + OUTLINE, store, OUTLINE);
+    check_reply(sehmelir_chunk_add(chunk.lent, CHUNK, 9, store, OUTLINE),
+                SEHMELIR_TABLE_FULL, 2, 0, "a full table takes no third");
+    check(memcmp(&chunk, &expected, sizeof chunk) == 0,
+          "adding writes entry and outline and nothing else");
+
+    check_part(sehmelir_chunk_find(chunk.lent, CHUNK, 8), SEHMELIR_DONE, OUTLINE,
+               TABLE + OUTLINE, OUTLINE, "the second is found");
+    check_part(sehmelir_chunk_find(chunk.lent, CHUNK, 9), SEHMELIR_KEY_MISSING,
+               9, 0, 0, "a key that is not there is not found");
+    check_reply(sehmelir_chunk_remove(chunk.lent, CHUNK, 7), SEHMELIR_DONE,
+                OUTLINE, 0, "the first is removed");
+    put_entry(&expected, 0, 0, 0, 0);
+    memset(expected.lent + TABLE, 0, OUTLINE);
+    check_reply(sehmelir_chunk_remove(chunk.lent, CHUNK, 7),
+                SEHMELIR_KEY_MISSING, 7, 0, "it is not removed twice");
+    check(memcmp(&chunk, &expected, sizeof chunk) == 0,
+          "removing zeroes entry and outline and nothing else");
+
+    check_reply(sehmelir_chunk_compact(chunk.lent, CHUNK), SEHMELIR_DONE,
+                TABLE + OUTLINE, 0, "the chunk is compacted");
+    put_entry(&expected, 1, 8, TABLE, OUTLINE);
+    memcpy(expected.lent + TABLE, store, OUTLINE);
+    memset(expected.lent + TABLE + OUTLINE, 0, CHUNK - TABLE - OUTLINE);
+    check(memcmp(&chunk, &expected, sizeof chunk) == 0,
+          "compacting moves the outline and zeroes the gap");
+}
+
 int main(void) {
     setvbuf(stdout, NULL, _IOLBF, BUFSIZ);
     check(sizeof(struct sehmelir_reply) == 16 &&
@@ -432,6 +545,13 @@ int main(void) {
     check_take();
     check_import();
     check_export();
+    check(sizeof(struct sehmelir_part) == 32 &&
+              offsetof(struct sehmelir_part, number) == 8 &&
+              offsetof(struct sehmelir_part, offset) == 16 &&
+              offsetof(struct sehmelir_part, length) == 24,
+          "a part is two 32-bit numbers and three 64-bit ones");
+    check_chunk_refusals();
+    check_chunk();
     puts(failed ? "tests/c: FAILED" : "tests/c: all checks hold");
     return failed;
 }

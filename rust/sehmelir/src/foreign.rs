@@ -13,24 +13,35 @@ pub struct Reply {
 impl Reply {
     /// The number with reply 0, or the refusal.
     pub fn number(&self) -> Result<usize, Refusal> {
-        // both casts keep the number: the archive links only where usize has
-        // 64 bits, and grades and kinds are 32-bit words
-        let (long, word) = (self.number as usize, self.number as u32);
-        Err(match self.reply {
-            0 => return Ok(long),
-            1 => Refusal::Uneven(long),
-            2 => Refusal::TooMany(long),
-            3 => Refusal::Grade(word),
-            4 => Refusal::Outside(long),
-            5 => Refusal::NoRoom(long),
-            6 => Refusal::NotOutline,
-            7 => Refusal::Kind(word),
-            8 => Refusal::NotSound(long),
-            9 => Refusal::NoVertex(long),
-            13 => Refusal::NotTaken(long),
-            18 => Refusal::WithoutEdges(long),
-            reply => panic!("the archive gives reply {reply}, which this crate does not know"),
-        })
+        match self.reply {
+            0 => Ok(self.number as usize),
+            reply => Err(refused(reply, self.number)),
+        }
+    }
+}
+
+/// The refusal of a reply that is not 0 and its number.
+pub fn refused(reply: u32, number: u64) -> Refusal {
+    // both casts keep the number: the archive links only where usize has
+    // 64 bits, and grades, kinds and keys are 32-bit words
+    let (long, word) = (number as usize, number as u32);
+    match reply {
+        1 => Refusal::Uneven(long),
+        2 => Refusal::TooMany(long),
+        3 => Refusal::Grade(word),
+        4 => Refusal::Outside(long),
+        5 => Refusal::NoRoom(long),
+        6 => Refusal::NotOutline,
+        7 => Refusal::Kind(word),
+        8 => Refusal::NotSound(long),
+        9 => Refusal::NoVertex(long),
+        13 => Refusal::NotTaken(long),
+        14 => Refusal::Damaged,
+        15 => Refusal::KeyThere(word),
+        16 => Refusal::KeyMissing(word),
+        17 => Refusal::TableFull(long),
+        18 => Refusal::WithoutEdges(long),
+        reply => panic!("the archive gives reply {reply}, which this crate does not know"),
     }
 }
 

@@ -1,12 +1,14 @@
 #![doc = include_str!("../README.md")]
 #![warn(missing_docs)]
 
+mod chunk;
 mod foreign;
 mod refusal;
 mod untaken;
 
 use std::ops::RangeInclusive;
 
+pub use chunk::{table_bytes, Chunk, MOST_ENTRIES};
 pub use refusal::Refusal;
 pub use untaken::Untaken;
 

@@ -21,7 +21,9 @@ pub enum Refusal {
     /// 5: the result has so many edges ([`draw`](crate::draw)), bytes
     /// ([`keep`](crate::keep), [`replace`](crate::replace)) or vertices
     /// ([`read`](crate::read), [`import`](crate::import),
-    /// [`export`](crate::export)), and the room lent is shorter.
+    /// [`export`](crate::export)), and the room lent is shorter; or the outline
+    /// that is added to a [`Chunk`](crate::Chunk) has so many bytes, and the
+    /// chunk has no room for it, compacted or not.
     NoRoom(usize),
     /// 6: the store has under 24 bytes, or its edition is not 1, or it is
     /// shorter than its header says.
@@ -37,6 +39,17 @@ pub enum Refusal {
     /// [`export`](crate::export) the one at this place, counted from 0, is the
     /// first that is not taken.
     NotTaken(usize),
+    /// 14: the chunk's table is damaged, or cannot be made: the chunk has above
+    /// 4,294,967,295 bytes, the table has above 1,024 entries or runs past the
+    /// chunk, one key is in use twice, or an entry in use overlaps the table or
+    /// another entry or leaves the chunk.
+    Damaged,
+    /// 15: this key is in the chunk already.
+    KeyThere(u32),
+    /// 16: this key is not in the chunk.
+    KeyMissing(u32),
+    /// 17: all of the chunk's so many entries are in use.
+    TableFull(usize),
     /// 18: the path has so many vertices, at least one, and no edges: so it is
     /// where every radius is 0 or 1.
     WithoutEdges(usize),
@@ -60,6 +73,10 @@ impl Refusal {
             Refusal::NotSound(_) => 8,
             Refusal::NoVertex(_) => 9,
             Refusal::NotTaken(_) => 13,
+            Refusal::Damaged => 14,
+            Refusal::KeyThere(_) => 15,
+            Refusal::KeyMissing(_) => 16,
+            Refusal::TableFull(_) => 17,
             Refusal::WithoutEdges(_) => 18,
         }
     }
@@ -80,7 +97,7 @@ impl Display for Refusal {
             Refusal::NoRoom(needed) => write!(
                 formatter,
                 "the room is too short: the result has {needed} edges if drawn, \
-                 vertices if read, bytes if kept or replaced"
+                 vertices if read, bytes if kept, replaced or added"
             ),
             Refusal::NotOutline => {
                 write!(formatter, "the store is too short or not of edition 1")
@@ -92,6 +109,12 @@ impl Display for Refusal {
             Refusal::NoVertex(index) => write!(formatter, "the outline has no vertex {index}"),
             Refusal::NotTaken(place) => {
                 write!(formatter, "the number at place {place} is not taken")
+            }
+            Refusal::Damaged => write!(formatter, "the chunk's table is damaged"),
+            Refusal::KeyThere(key) => write!(formatter, "key {key} is in the chunk already"),
+            Refusal::KeyMissing(key) => write!(formatter, "key {key} is not in the chunk"),
+            Refusal::TableFull(entries) => {
+                write!(formatter, "all {entries} entries of the chunk are in use")
             }
             Refusal::WithoutEdges(count) => {
                 write!(formatter, "a path of {count} vertices has no edges")

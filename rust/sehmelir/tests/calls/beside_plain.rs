@@ -48,6 +48,10 @@ pub fn answer(reply: Reply) -> Result<usize, Refusal> {
         8 => Refusal::NotSound(number),
         9 => Refusal::NoVertex(number),
         13 => Refusal::NotTaken(number),
+        14 => Refusal::Damaged,
+        15 => Refusal::KeyThere(reply.number.try_into().unwrap()),
+        16 => Refusal::KeyMissing(reply.number.try_into().unwrap()),
+        17 => Refusal::TableFull(number),
         18 => Refusal::WithoutEdges(number),
         other => panic!("{other} is no reply of the documents"),
     };
@@ -82,7 +86,7 @@ fn read(store: &[u8], length: usize) -> Reply {
     reply
 }
 
-fn replace(store: &[u8], index: usize, vertex: [i32; 3]) -> (Reply, Vec<u8>) {
+pub fn replace(store: &[u8], index: usize, vertex: [i32; 3]) -> (Reply, Vec<u8>) {
     let (answered, out) = lent::replace(store, index, vertex);
     let [x, y, radius] = vertex;
     let mut expected = store.to_vec();

@@ -1,7 +1,8 @@
 //! The calls on memory between canaries.
 
-use sehmelir::Refusal;
+use sehmelir::{Chunk, Refusal};
 use std::fmt::Debug;
+use std::ops::Range;
 
 /// What a call answers, and the lent memory that it may write, afterwards.
 pub type Outcome<A, T> = (Result<A, Refusal>, Vec<T>);
@@ -83,6 +84,28 @@ pub fn import(numbers: &[f32], room: &[i32]) -> Outcome<usize, i32> {
 
 pub fn export(path: &[i32], room: &[f32]) -> Outcome<usize, f32> {
     lend_to_read(path, |path| lend(room, |out| sehmelir::export(path, out)))
+}
+
+pub fn chunk_make(chunk: &[u8], entries: u32) -> Outcome<(), u8> {
+    lend(chunk, |chunk| Chunk::make(chunk, entries).map(drop))
+}
+
+pub fn chunk_add(chunk: &[u8], key: u32, outline: &[u8]) -> Outcome<usize, u8> {
+    lend_to_read(outline, |outline| {
+        lend(chunk, |chunk| Chunk::over(chunk).add(key, outline))
+    })
+}
+
+pub fn chunk_find(chunk: &[u8], key: u32) -> Result<Range<usize>, Refusal> {
+    lend_to_read(chunk, |chunk| Chunk::over(chunk).find(key))
+}
+
+pub fn chunk_remove(chunk: &[u8], key: u32) -> Outcome<usize, u8> {
+    lend(chunk, |chunk| Chunk::over(chunk).remove(key))
+}
+
+pub fn chunk_compact(chunk: &[u8]) -> Outcome<usize, u8> {
+    lend(chunk, |chunk| Chunk::over(chunk).compact())
 }
 
 /// The floats of these bits, where they lie.

@@ -2,6 +2,7 @@
 //! stands between canaries.
 
 mod beside_plain;
+mod chunks;
 mod examples;
 mod lent;
 mod making;

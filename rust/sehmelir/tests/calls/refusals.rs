@@ -196,7 +196,7 @@ fn say_why() {
         (
             Refusal::NoRoom(8),
             "the room is too short: the result has 8 edges if drawn, vertices if read, \
-             bytes if kept or replaced",
+             bytes if kept, replaced or added",
         ),
         (
             Refusal::NotOutline,
@@ -209,12 +209,19 @@ fn say_why() {
         ),
         (Refusal::NoVertex(2), "the outline has no vertex 2"),
         (Refusal::NotTaken(5), "the number at place 5 is not taken"),
+        (Refusal::Damaged, "the chunk's table is damaged"),
+        (Refusal::KeyThere(7), "key 7 is in the chunk already"),
+        (Refusal::KeyMissing(7), "key 7 is not in the chunk"),
+        (
+            Refusal::TableFull(16),
+            "all 16 entries of the chunk are in use",
+        ),
         (
             Refusal::WithoutEdges(3),
             "a path of 3 vertices has no edges",
         ),
     ];
-    let replies = (1..=9).chain([13, 18]);
+    let replies = (1..=9).chain(13..=18);
     for ((refusal, text), reply) in table.into_iter().zip(replies) {
         let error: &dyn Error = &refusal;
         assert_eq!(error.to_string(), text);
