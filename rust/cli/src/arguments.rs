@@ -1,6 +1,7 @@
 //! The command line.
 
 use crate::destination::Destination;
+use crate::tile::TileCommand;
 use clap::{Args, Parser, Subcommand};
 use clap_complete::Shell;
 use std::path::PathBuf;
@@ -12,7 +13,8 @@ a path has at most 4096 vertices. Bytes that follow a sheet are passed over. A f
 chunks has 12 bytes a vertex: x, y and full width in millimetres, as little-endian 32-bit floats.
 
 Input comes from standard input, or from the file that is named. The result goes to standard
-output, or with -o to a file, which is written whole or not at all.
+output, or with -o to a file, which is written whole or not at all. A tile that a command of chunk
+changes is replaced in the same way.
 
 Exit status: 0 and the result; or 1, why on standard error, and nothing on standard output.";
 
@@ -44,6 +46,9 @@ pub enum Command {
     Import(Importing),
     /// A path as a file of the oldest chunks
     Export(Exporting),
+    /// Many sheets in one file, a tile, each under a key
+    #[command(subcommand)]
+    Chunk(TileCommand),
     /// A hedge of nine hundred points, one gate post moved; writes hedge.svg here
     Demo,
     /// Completions of this command for a shell

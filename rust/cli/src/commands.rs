@@ -14,6 +14,7 @@ use crate::picture;
 use crate::report;
 use crate::sheet::Sheet;
 use crate::source::Source;
+use crate::tile;
 use crate::words::whole;
 use clap::CommandFactory;
 use clap_complete::{generate, Shell};
@@ -30,6 +31,7 @@ pub fn run(command: Command) -> Result<(), Failure> {
         Command::Picture(asked) => show(asked),
         Command::Import(asked) => import(asked),
         Command::Export(asked) => export(asked),
+        Command::Chunk(asked) => tile::run(asked),
         Command::Demo => demo::run(),
         Command::Completions { shell } => complete(shell),
     }

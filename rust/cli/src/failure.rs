@@ -22,6 +22,10 @@ pub enum Failure {
     Refused(Refusal),
     /// The sheets to be compared have so many vertices and so many others.
     Unlike(usize, usize),
+    /// The tile has no room for a sheet of so many bytes.
+    NoTileRoom(usize),
+    /// The file to be made is there already.
+    There,
     /// The input cannot be read.
     Unread(io::Error),
     /// The result cannot be written.
@@ -76,6 +80,12 @@ impl Display for Failure {
                 "refused: the first sheet has {first} vertices and the second {second}; \
                  only sheets with as many vertices are held against each other"
             ),
+            Failure::NoTileRoom(bytes) => write!(
+                formatter,
+                "refused with reply 5: the tile has no room for the sheet, not even after compacting; \
+                 it needs {bytes} bytes"
+            ),
+            Failure::There => write!(formatter, "refused: there is a file of that name already"),
             Failure::Unread(error) => {
                 write!(formatter, "refused: the input cannot be read: {error}")
             }
@@ -153,6 +163,15 @@ fn meaning(refusal: &Refusal) -> String {
         ),
         Refusal::NotTaken(place) => {
             format!("a number is not taken; the first such is at place {place}, counted from 0")
+        }
+        Refusal::Damaged => "the tile's table is damaged, or cannot be made: it has above 1024 entries, \
+                             or it or a sheet runs past the tile, or they overlap, or a key is in use twice, \
+                             or the tile is above 4294967295 bytes"
+            .to_string(),
+        Refusal::KeyThere(key) => format!("the key is in the tile already; it is {key}"),
+        Refusal::KeyMissing(key) => format!("the key is not in the tile; it is {key}"),
+        Refusal::TableFull(entries) => {
+            format!("all entries of the tile's table are in use; there are {entries}")
         }
         Refusal::WithoutEdges(count) => format!(
             "the path has no edges, so that nothing would be drawn; its vertices are {count} \

@@ -1,5 +1,5 @@
 //! `sehmelir`: paths kept as sheets, read, drawn, changed, compared and shown,
-//! and taken from and to the oldest chunks.
+//! taken from and to the oldest chunks, and stored in tiles.
 //! What rests on a proof comes from the library, `rust/sehmelir`; what is here
 //! is text, files, pictures and words.
 
@@ -21,6 +21,7 @@ mod sentence;
 mod sheet;
 mod source;
 mod stack;
+mod tile;
 mod whole_file;
 mod words;
 

@@ -5,7 +5,7 @@ use crate::memory;
 use std::fs::File;
 use std::io::{self, Read};
 use std::os::fd::AsFd;
-use std::path::PathBuf;
+use std::path::{Path, PathBuf};
 
 /// Room after the bytes, so that a sheet in them can grow where it stands.
 const SPARE: usize = 256 << 10;
@@ -17,6 +17,11 @@ impl Source {
     /// The file of that name. None, or `-`, stands for standard input.
     pub fn named(file: Option<PathBuf>) -> Source {
         Source(file.filter(|file| file.as_os_str() != "-"))
+    }
+
+    /// The file of that name, whatever its name is.
+    pub fn file(file: &Path) -> Source {
+        Source(Some(file.to_owned()))
     }
 
     /// All of it, and what is made of it. A failure of either names the file.

@@ -2,8 +2,10 @@
 //! number to standard error.
 //!
 //! sheet keep GRADE | sheet draw GRADE | sheet read | sheet replace K X Y RADIUS | sheet import | sheet export
+//! sheet chunk-make ENTRIES BYTES | sheet chunk-add KEY OUTLINE | sheet chunk-find KEY | sheet chunk-remove KEY | sheet chunk-compact
 
 use plain::calls::{draw, keep, read, replace, Reply};
+use plain::chunks;
 use plain::oldest::{export, import};
 use std::io::{self, Read, Write};
 use std::process::ExitCode;
@@ -57,6 +59,39 @@ fn lent<T: Clone + Default>(
     Ok(room)
 }
 
+/// A chunk after a call, or why it refuses.
+fn changed(mut chunk: Vec<u8>, call: impl FnOnce(&mut [u8]) -> Reply) -> Result<Vec<u8>, Reply> {
+    match call(&mut chunk) {
+        Reply { reply: 0, .. } => Ok(chunk),
+        refusal => Err(refusal),
+    }
+}
+
+/// What a command of chunks writes, or why it refuses. The chunk is the
+/// standard input.
+fn chunk_answer(words: &[&str], chunk: Vec<u8>) -> Option<Result<Vec<u8>, Reply>> {
+    Some(match words {
+        ["chunk-make", entries, bytes] => {
+            let (entries, bytes) = (entries.parse().ok()?, bytes.parse().ok()?);
+            changed(vec![0; bytes], |chunk| chunks::make(chunk, entries))
+        }
+        ["chunk-add", key, outline] => {
+            let (key, outline) = (key.parse().ok()?, std::fs::read(outline).ok()?);
+            changed(chunk, |chunk| chunks::add(chunk, key, &outline))
+        }
+        ["chunk-find", key] => match chunks::find(&chunk, key.parse().ok()?) {
+            found if found.reply != 0 => Err(Reply::new(found.reply, found.number)),
+            found => Ok(chunk[found.offset as usize..][..found.length as usize].to_vec()),
+        },
+        ["chunk-remove", key] => {
+            let key = key.parse().ok()?;
+            changed(chunk, |chunk| chunks::remove(chunk, key))
+        }
+        ["chunk-compact"] => changed(chunk, chunks::compact),
+        _ => return None,
+    })
+}
+
 /// What the command writes, or why it refuses.
 fn answer(words: &[&str], input: Vec<u8>) -> Option<Result<Vec<u8>, Reply>> {
     Some(match words {
@@ -84,7 +119,7 @@ fn answer(words: &[&str], input: Vec<u8>) -> Option<Result<Vec<u8>, Reply>> {
             let floats = lent(vec![], 3, |room| export(&path, room));
             floats.map(|floats| floats.into_iter().flat_map(f32::to_le_bytes).collect())
         }
-        _ => return None,
+        _ => return chunk_answer(words, input),
     })
 }
 
@@ -108,7 +143,7 @@ fn main() -> ExitCode {
         }
         None => {
             eprintln!(
-                "sheet keep GRADE | sheet draw GRADE | sheet read | sheet replace K X Y RADIUS | sheet import | sheet export"
+                "sheet keep GRADE | sheet draw GRADE | sheet read | sheet replace K X Y RADIUS | sheet import | sheet export | sheet chunk-.."
             );
             ExitCode::FAILURE
         }
