@@ -6,6 +6,7 @@ mod inputs;
 mod programs;
 mod rounds;
 mod table;
+mod tiles;
 
 use inputs::Input;
 use programs::{Call, CALLS};
@@ -17,7 +18,10 @@ use table::{Layout, Table};
 const USAGE: &str = "\
 bench [--markdown] [CALL...]
   --markdown   the table for docs/SPEED.md
-  CALL         draw, keep, read or replace: times only these";
+  CALL         draw, keep, read, replace or tiles: times only these";
+
+/// The name of what is timed of tiles.
+const TILES: &str = "tiles";
 
 const GRADES: [u32; 3] = [1, 4, 8];
 
@@ -32,6 +36,7 @@ fn main() -> ExitCode {
         ["--markdown"] => Some(Layout::Markdown),
         _ => None,
     };
+    let (tiles, names): (Vec<&str>, Vec<&str>) = names.iter().partition(|&&name| name == TILES);
     let (Some(layout), Some(calls)) = (layout, calls(&names)) else {
         eprintln!("{USAGE}");
         return ExitCode::from(2);
@@ -42,7 +47,13 @@ fn main() -> ExitCode {
     }
     println!("{}", conditions());
     println!();
-    print!("{}", timed(&calls).laid_out(layout));
+    if !names.is_empty() || tiles.is_empty() {
+        print!("{}", timed(&calls).laid_out(layout));
+        println!();
+    }
+    if !tiles.is_empty() || names.is_empty() {
+        print!("{}", tiles::timed().laid_out(layout));
+    }
     ExitCode::SUCCESS
 }
 
@@ -116,7 +127,7 @@ fn conditions() -> String {
 }
 
 /// A row for each call, input and grade.
-fn timed(calls: &[Call]) -> Table {
+fn timed(calls: &[Call]) -> Table<9> {
     let mut table = Table::new([
         "call",
         "input",

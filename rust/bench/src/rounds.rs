@@ -2,7 +2,7 @@
 
 use crate::clock::processor_time;
 use crate::inputs::Input;
-use crate::programs::{Call, Memory, Program, LIBRARY, PLAIN};
+use crate::programs::{Call, Memory, LIBRARY, PLAIN};
 use std::hint::black_box;
 use std::time::{Duration, Instant};
 
@@ -37,26 +37,21 @@ impl Rounds<'_> {
     /// The best times of a call, of the library and of plain, in nanoseconds.
     pub fn best(&mut self, call: Call) -> [f64; 2] {
         self.check(call);
-        let mut best = [Duration::MAX; 2];
-        let start = Instant::now();
-        let mut runs = 0;
-        while runs < LEAST_RUNS || start.elapsed() < LEAST_TIME {
-            let (input, grade) = (self.input, self.grade);
-            let times = [
-                time(&LIBRARY, call, input, grade, &mut self.library),
-                time(&PLAIN, call, input, grade, &mut self.plain),
-            ];
-            for (best, time) in best.iter_mut().zip(times) {
-                *best = time.min(*best);
-            }
-            runs += 1;
-        }
+        let (input, grade) = (self.input, self.grade);
+        let programs = [(&LIBRARY, &mut self.library), (&PLAIN, &mut self.plain)];
+        let [(library, first), (plain, second)] = programs;
+        let best = best_by_turns(|time| {
+            [
+                time(&mut || library.run(call, black_box(input), grade, first).0),
+                time(&mut || plain.run(call, black_box(input), grade, second).0),
+            ]
+        });
         self.check(call);
         let calls = match call {
             Call::Replace => 2.0,
             _ => 1.0,
         };
-        best.map(|time| time.as_nanos() as f64 / calls)
+        best.map(|time| time / calls)
     }
 
     /// That both programs give the same answer and the same memory.
@@ -82,9 +77,27 @@ impl Rounds<'_> {
     }
 }
 
+/// How long one run of something takes.
+pub type Timing = dyn Fn(&mut dyn FnMut() -> usize) -> Duration;
+
+/// The best times of two programs by turns, in nanoseconds: `round` times one
+/// run of each.
+pub fn best_by_turns(mut round: impl FnMut(&Timing) -> [Duration; 2]) -> [f64; 2] {
+    let mut best = [Duration::MAX; 2];
+    let start = Instant::now();
+    let mut runs = 0;
+    while runs < LEAST_RUNS || start.elapsed() < LEAST_TIME {
+        for (best, time) in best.iter_mut().zip(round(&time)) {
+            *best = time.min(*best);
+        }
+        runs += 1;
+    }
+    best.map(|time| time.as_nanos() as f64)
+}
+
 /// How long one run takes.
-fn time(program: &Program, call: Call, input: &Input, grade: u32, memory: &mut Memory) -> Duration {
+fn time(run: &mut dyn FnMut() -> usize) -> Duration {
     let start = processor_time();
-    black_box(program.run(call, black_box(input), grade, memory));
+    black_box(run());
     processor_time() - start
 }

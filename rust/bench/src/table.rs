@@ -1,7 +1,5 @@
 //! A table as plain text or as Markdown.
 
-const COLUMNS: usize = 9;
-
 /// The first columns hold words, the others numbers.
 const WORDS: usize = 2;
 
@@ -11,12 +9,12 @@ pub enum Layout {
     Markdown,
 }
 
-pub struct Table {
+pub struct Table<const COLUMNS: usize> {
     rows: Vec<[String; COLUMNS]>,
 }
 
-impl Table {
-    pub fn new(heads: [&str; COLUMNS]) -> Table {
+impl<const COLUMNS: usize> Table<COLUMNS> {
+    pub fn new(heads: [&str; COLUMNS]) -> Table<COLUMNS> {
         Table {
             rows: vec![heads.map(str::to_string)],
         }
@@ -30,7 +28,7 @@ impl Table {
         let mut widths = [0; COLUMNS];
         for row in &self.rows {
             for (width, cell) in widths.iter_mut().zip(row) {
-                *width = cell.len().max(*width);
+                *width = cell.chars().count().max(*width);
             }
         }
         let mut text = String::new();
@@ -50,7 +48,7 @@ impl Table {
 }
 
 /// Cells as wide as their columns: words to the left, numbers to the right.
-fn padded(row: &[String; COLUMNS], widths: &[usize; COLUMNS]) -> Vec<String> {
+fn padded(row: &[String], widths: &[usize]) -> Vec<String> {
     let cells = row.iter().zip(widths).enumerate();
     cells
         .map(|(column, (cell, &width))| match column < WORDS {
@@ -61,7 +59,7 @@ fn padded(row: &[String; COLUMNS], widths: &[usize; COLUMNS]) -> Vec<String> {
 }
 
 /// The line below a Markdown table's heads.
-fn ruler(widths: &[usize; COLUMNS]) -> String {
+fn ruler(widths: &[usize]) -> String {
     let dashes = |(column, &width): (usize, &usize)| match column < WORDS {
         true => "-".repeat(width + 2),
         false => "-".repeat(width + 1) + ":",
