@@ -136,7 +136,7 @@ fn right_turns(prev: Section, next: Section) -> bool
 }
 
 // The left of a join: from the next section back to the previous one.
-fn left_join(out: &mut [i32], at: usize, pen: Pen, prev: Section, next: Section) -> usize
+pub fn left_join(out: &mut [i32], at: usize, pen: Pen, prev: Section, next: Section) -> usize
     requires { ⌜ UnitLong (pen .step) × Around prev × Around next × (sameCentre prev next ≡ true) ⌝ }
     requires { ⌜ Room edgeNumbers at (leftJoin (pen .step) prev next) ⌝ }
     ensures { λ n. ⌜ Lays (pen .step) (pen .folds) (now (out .entry)) at (leftJoin (pen .step) prev next) (now (out .exit)) n ⌝ }
@@ -151,7 +151,7 @@ fn left_join(out: &mut [i32], at: usize, pen: Pen, prev: Section, next: Section)
 }
 
 // The right of a join: from the previous section to the next one.
-fn right_join(out: &mut [i32], at: usize, pen: Pen, prev: Section, next: Section) -> usize
+pub fn right_join(out: &mut [i32], at: usize, pen: Pen, prev: Section, next: Section) -> usize
     requires { ⌜ UnitLong (pen .step) × Around prev × Around next × (sameCentre prev next ≡ true) ⌝ }
     requires { ⌜ Room edgeNumbers at (rightJoin (pen .step) prev next) ⌝ }
     ensures { λ n. ⌜ Lays (pen .step) (pen .folds) (now (out .entry)) at (rightJoin (pen .step) prev next) (now (out .exit)) n ⌝ }
@@ -166,7 +166,7 @@ fn right_join(out: &mut [i32], at: usize, pen: Pen, prev: Section, next: Section
 }
 
 // A gap: the previous section ends, and the next one starts, with a straight edge.
-fn gap(out: &mut [i32], at: usize, pen: Pen, prev: Section, next: Section) -> usize
+pub fn gap(out: &mut [i32], at: usize, pen: Pen, prev: Section, next: Section) -> usize
     requires { ⌜ UnitLong (pen .step) × Around prev × Around next ⌝ }
     requires { ⌜ Room edgeNumbers at (gapOf (pen .step) prev next) ⌝ }
     ensures { λ n. ⌜ Lays (pen .step) (pen .folds) (now (out .entry)) at (gapOf (pen .step) prev next) (now (out .exit)) n ⌝ }
