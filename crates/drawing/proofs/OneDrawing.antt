@@ -12,6 +12,8 @@ unfolding from replyOfDrawn
 drawn-back (drawn.Edges m) = refl
 drawn-back (drawn.Refused r) = from-refusal drawn.Edges drawn.Refused r
 
+pub drawn-one : (r q : Drawn) → replyOfDrawn r ≡ replyOfDrawn q → r ≡ q
+drawn-one r q e = sym (drawn-back r) ∙ ap (λ (x : Reply). from drawn.Edges drawn.Refused (x .0) (x .1)) e ∙ drawn-back q
+
 pub one-drawing : OneDrawing
-one-drawing path g out r q o p h k =
-    (sym (drawn-back r) ∙ ap (λ (x : Reply). from drawn.Edges drawn.Refused (x .0) (x .1)) (h .reply ∙ sym (k .reply)) ∙ drawn-back q, h .out ∙ sym (k .out))
+one-drawing path g out r q o p h k = (drawn-one r q (h .reply ∙ sym (k .reply)), h .out ∙ sym (k .out))

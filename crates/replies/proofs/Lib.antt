@@ -2,3 +2,4 @@
 pub mod OneOutcome
 pub mod PathChecks
 pub mod Rows
+pub mod StyleFaults

@@ -2,3 +2,4 @@
 pub mod Checks
 pub mod Refusals
 pub mod Replies
+pub mod StyleRows

@@ -1,6 +1,7 @@
 // Why a call is refused, and the rows that several calls share.
 pub mod path_rows;
 pub mod refusals;
+pub mod style_rows;
 
 // Why a call is refused, each with the number that goes beside its reply. They are appended, never renumbered.
 pub enum Refusal {
