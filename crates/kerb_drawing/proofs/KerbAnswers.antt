@@ -1,12 +1,12 @@
 -- What drawing a kerb answers, case by case; and a kerb with edges is drawn into room enough. Assumes nothing.
 use mathlib.Core.Path.{_≡_, refl, sym, ap, _∙_}
-use mathlib.Core.List.{List, [], _∷_, _++_}
+use mathlib.Core.List.{List, [], _∷_}
 use Prim.Native.Nat.{ℕ, zero, suc, _*_, _/_, _≤_, _<_}
 use native.Mathlib.Omega.{arith}
 use lib.IntN.{ℤ, pos}
-use lib.ListN.{length, drop}
+use lib.ListN.{length}
 use Rattle.runs.specs.Runs.{spread, Runs, put}
-use Rattle.runs.proofs.Laws.{runs-as}
+use Rattle.runs.proofs.Laws.{runs-none, runs-as}
 use Rattle.runs.proofs.Written.{written-whole}
 use Rattle.turning.specs.Edges.{edgeNumbers}
 use Rattle.turning.specs.declared.Edge.{Edge}
@@ -20,11 +20,11 @@ use Rattle.replies.specs.Replies.{firstRow, emptyRow, roomRow}
 use Rattle.replies.specs.Refusals.{refusalOf}
 use Rattle.replies.specs.declared.Refusal.{Refusal}
 use Rattle.replies.specs.declared.Refusal.the-variants.{NoRoom, WithoutEdges}
-use Rattle.replies.proofs.Rows.{rows-append, empty-holds, empty-fails, no-vertices, room-short, room-enough, refused-written, done-written}
+use Rattle.replies.proofs.Rows.{rows-append, empty-holds, empty-fails, empty-passes, room-short, room-enough, refused-written, done-written}
 use Rattle.kerb_rows.specs.KerbRows.{kerbRows, kerbDue, KerbFits, KerbSays}
 use Rattle.kerb_rows.specs.declared.KerbCheck.{KerbCheck}
 use Rattle.kerb_rows.specs.declared.KerbCheck.the-variants.{Refused}
-use Rattle.kerb_rows.proofs.KerbChecks.{within-passes, kerb-refuses, due-told}
+use Rattle.kerb_rows.proofs.KerbChecks.{within-passes, kerb-refuses, due-told, count-told}
 use Rattle.drawing.specs.Drawing.{replyOfDrawn}
 use Rattle.drawing.specs.declared.Drawn.the-variants as drawn
 use Rattle.kerb_drawing.specs.KerbDrawing.{drawKerbReply, drawKerbOut, DrawsKerb, KerbIsDrawn}
@@ -45,32 +45,10 @@ module _ (l : List ℤ) (g r j c : ℕ) where
     unfolding drawKerbReply
     further room = rows-append (kerbRows l g r j c) _ _ ∙ h .passed _
 
-    pub edges-due : (room : ℕ) → 0 < length (kerbDue l g r j c) → 4 * length (kerbDue l g r j c) ≤ room → drawKerbReply l g r j c room ≡ (0, length (kerbDue l g r j c))
-    edges-due room some k =
+    due : (room : ℕ) → (0 < length (kerbPath (pos r) l) → 0 < length (kerbDue l g r j c)) → 4 * length (kerbDue l g r j c) ≤ room → drawKerbReply l g r j c room ≡ (0, length (kerbDue l g r j c))
+    due room some k =
         let m = length (kerbDue l g r j c) in
-        further room ∙ empty-fails (length (kerbPath (pos r) l)) m _ _ some ∙ room-enough (4 * m) room m (0, m) k
-
-    none-due : (room : ℕ) → length (kerbPath (pos r) l) ≡ 0 → 4 * length (kerbDue l g r j c) ≤ room → drawKerbReply l g r j c room ≡ (0, length (kerbDue l g r j c))
-    none-due room e k =
-        let m = length (kerbDue l g r j c) in
-        further room
-        ∙ ap (λ (z : ℕ). firstRow (emptyRow z m ∷ roomRow (4 * m) room m ∷ []) (0, m)) e
-        ∙ no-vertices m _ _
-        ∙ room-enough (4 * m) room m (0, m) k
-
-    -- no points have no edges
-    pub kerb-none : (out : List ℤ) → n ≡ 0 → DrawsKerb l g r j c out (drawn.Edges 0) out
-    unfolding drawKerbOut replyOfDrawn kerbDue spread
-    kerb-none out e =
-        let vs = kerbPath (pos r) l in
-        let z : length vs ≡ 0 = sym (h .count) ∙ e in
-        let d : kerbDue l g r j c ≡ [] = kerb-empty g (styleOf r j c) vs z in
-        let a : 0 ≡ length (kerbDue l g r j c) = sym (ap length d) in
-        let x : (0, 0) ≡ drawKerbReply l g r j c (length out) = ap (λ (m : ℕ). (0, m)) a ∙ sym (none-due (length out) z (omega (arith, a))) in
-        record {
-          reply = x;
-          out = ap (λ (made : List ℤ). made ++ drop (length made) out) (sym (ap (spread edgeNumbers) d)) ∙ done-written 0 (spread edgeNumbers (kerbDue l g r j c)) out x;
-        }
+        further room ∙ empty-passes (length (kerbPath (pos r) l)) m _ _ some ∙ room-enough (4 * m) room m (0, m) k
 
     -- y is the style, w the position that its edges came to
     module _ {y : Style} {w : ℕ} {s s₁ : List ℤ} (e : y ≡ styleOf r j c) (p : Runs put edgeNumbers s 0 (kerbEdges g y (kerbPath (y .radius) l)) s₁ w) where
@@ -96,19 +74,21 @@ module _ (l : List ℤ) (g r j c : ℕ) where
           let m = length (kerbDue l g r j c) in
           refuses (NoRoom (w / 4)) out (sym (further (length out) ∙ empty-fails (length (kerbPath (pos r) l)) m _ _ (omega (arith, numbers-due, k)) ∙ room-short (4 * m) (length out) m (0, m) (omega (arith, numbers-due, k)) ∙ ap (λ (i : ℕ). (5, i)) (sym count-due)))
 
-      pub kerb-done : 0 < w → w ≤ length s → DrawsKerb l g r j c s (drawn.Edges (w / 4)) s₁
+      pub kerb-done : (0 < n → 0 < w) → w ≤ length s → DrawsKerb l g r j c s (drawn.Edges (w / 4)) s₁
       unfolding drawKerbOut replyOfDrawn
       kerb-done z k =
           let es = kerbDue l g r j c in
-          let x : (0, w / 4) ≡ drawKerbReply l g r j c (length s) = ap (λ (i : ℕ). (0, i)) count-due ∙ sym (edges-due (length s) (omega (arith, numbers-due, z)) (omega (arith, numbers-due, k))) in
+          let some : 0 < length (kerbPath (pos r) l) → 0 < length es = λ i. omega (arith, numbers-due, z (omega (arith, i, h .count))) in
+          let x : (0, w / 4) ≡ drawKerbReply l g r j c (length s) = ap (λ (i : ℕ). (0, i)) count-due ∙ sym (due (length s) some (omega (arith, numbers-due, k))) in
           record {
             reply = x;
             out = written-whole (runs-as (sym (due-told l r j c e g)) p) (omega (arith, edges-four es, numbers-due, k)) ∙ done-written (w / 4) (spread edgeNumbers es) s x;
           }
 
+    -- no points have no edges
+    pub kerb-none : (out : List ℤ) → n ≡ 0 → DrawsKerb l g r j c out (drawn.Edges 0) out
+    kerb-none out e =
+        kerb-done {y = styleOf r j c} refl (runs-as (kerb-empty g (styleOf r j c) _ (sym (count-told l r j c {y = styleOf r j c} refl (h .count)) ∙ e)) runs-none) (λ i. absurd (omega (arith, i, e))) (omega arith)
+
 pub kerb-is-drawn : KerbIsDrawn
-kerb-is-drawn l g r j c room h s w some k = go (length (kerbPath (pos r) l)) refl
-  where
-    go : (n : ℕ) → length (kerbPath (pos r) l) ≡ n → drawKerbReply l g r j c room ≡ (0, length (kerbDue l g r j c))
-    go zero e = none-due l g r j c (within-passes l h s w) room e k
-    go (suc n) e = edges-due l g r j c (within-passes l h s w) room (some (omega (arith, e))) k
+kerb-is-drawn l g r j c room h s w some k = due l g r j c (within-passes l h s w) room some k

@@ -44,7 +44,7 @@ returns-4 : tie.Need-returns-4
 returns-4 c =
     let p = c .before .before .before .before .before .before .kerb-edges .ensures in
     let q = c .before .kerb-edges2 .ensures in
-    kerb-done _ _ _ _ _ (c .before .before .before .before .before .before .before .before .before .before .pre) (c .before .before .before .before .before .before .before .before .style-of .ensures) q (omega (arith, p .pos, q .pos, some _ (c .before .before .before .before .if2 .left))) (omega (arith, p .pos, q .pos, c .before .before .before .if3 .left))
+    kerb-done _ _ _ _ _ (c .before .before .before .before .before .before .before .before .before .before .pre) (c .before .before .before .before .before .before .before .before .style-of .ensures) q (λ _. omega (arith, p .pos, q .pos, some _ (c .before .before .before .before .if2 .left))) (omega (arith, p .pos, q .pos, c .before .before .before .if3 .left))
 
 pub draw-points-spec : {M : Type 1} → statement M
 draw-points-spec =
