@@ -1,6 +1,7 @@
 // The calls with room of their own: a path's edges, its kept outline, the path of an outline, another vertex in one, and how far that reaches.
 use contacts::Vertex;
 ghost use Rattle.drawing.specs.Drawing.{Draws};
+ghost use Rattle.kerb_drawing.specs.KerbDrawing.{DrawsKerb};
 ghost use Rattle.keeping.specs.Keeping.{Keeps};
 ghost use Rattle.reading.specs.Reading.{Reads};
 ghost use Rattle.editing.specs.Replacing.{Replaces};
@@ -11,6 +12,20 @@ pub fn draw(path: &[i32], grade: u32, out: &mut [i32]) -> drawing::Drawn
     ensures { λ r. ⌜ Draws (now (path .entry)) grade (now (out .entry)) r (now (out .exit)) ⌝ }
 {
     drawing::draw(path, grade, out)
+}
+
+// Draws a kerb's edges into lent numbers, four an edge.
+pub fn draw_kerb(
+    points: &[i32],
+    grade: u32,
+    radius: u32,
+    join: u32,
+    closed: u32,
+    out: &mut [i32],
+) -> drawing::Drawn
+    ensures { λ r. ⌜ DrawsKerb (now (points .entry)) grade radius join closed (now (out .entry)) r (now (out .exit)) ⌝ }
+{
+    kerb_drawing::draw_kerb(points, grade, radius, join, closed, out)
 }
 
 // Keeps a path's outline as bytes.

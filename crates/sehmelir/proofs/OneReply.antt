@@ -2,7 +2,7 @@
 use mathlib.Core.Path.{_≡_, sym, _∙_}
 use Prim.Native.Nat.{ℕ}
 use Rattle.replies.specs.Replies.{Reply as Answer}
-use Rattle.sehmelir.specs.Boundary.{Replies, OneDrawReply, OneKeepReply, OneReadReply, OneReplaceReply, OneReachReply, OneTelling, OneImportReply, OneExportReply}
+use Rattle.sehmelir.specs.Boundary.{Replies, OneDrawReply, OneDrawKerbReply, OneKeepReply, OneReadReply, OneReplaceReply, OneReachReply, OneTelling, OneImportReply, OneExportReply}
 use Rattle.sehmelir.specs.declared.Reply.{Reply}
 
 one-reply : (t : Answer) (g : ℕ) (r q : Reply) → Replies r t g → Replies q t g → r ≡ q
@@ -11,6 +11,9 @@ one-reply t g r q a b =
 
 pub one-draw-reply : OneDrawReply
 one-draw-reply path g out r q o p a b = (one-reply _ _ r q (a .replies) (b .replies), a .out ∙ sym (b .out))
+
+pub one-draw-kerb-reply : OneDrawKerbReply
+one-draw-kerb-reply points g r j c out a b o p h k = (one-reply _ _ a b (h .replies) (k .replies), h .out ∙ sym (k .out))
 
 pub one-keep-reply : OneKeepReply
 one-keep-reply path g out r q o p a b = (one-reply _ _ r q (a .replies) (b .replies), a .out ∙ sym (b .out))

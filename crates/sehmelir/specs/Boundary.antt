@@ -9,6 +9,7 @@ use lib.ListN.{length}
 use Rattle.contacts.specs.declared.Vertex.{Vertex}
 use Rattle.replies.specs.Replies.{Reply as Answer}
 use Rattle.drawing.specs.Drawing.{drawReply, drawOut}
+use Rattle.kerb_drawing.specs.KerbDrawing.{drawKerbReply, drawKerbOut}
 use Rattle.keeping.specs.Keeping.{keepReply, keepOut}
 use Rattle.reading.specs.Reading.{readReply, readGrade, readOut}
 use Rattle.editing.specs.Replacing.{replaceReply, replaceOut}
@@ -29,6 +30,11 @@ pub record Replies (r : Reply) (told : Answer) (g : ℕ) : Type 0 where
 pub record DrawReplies (path : List ℤ) (grade : ℕ) (out₀ : List ℤ) (r : Reply) (out₁ : List ℤ) : Type 0 where
   pub replies : Replies r (drawReply path grade (length out₀)) 0
   pub out : out₁ ≡ drawOut path grade out₀
+
+-- Document 02, request 3, drawing a kerb: reply, number and every lent number afterwards
+pub record DrawKerbReplies (points : List ℤ) (grade radius join closed : ℕ) (out₀ : List ℤ) (r : Reply) (out₁ : List ℤ) : Type 0 where
+  pub replies : Replies r (drawKerbReply points grade radius join closed (length out₀)) 0
+  pub out : out₁ ≡ drawKerbOut points grade radius join closed out₀
 
 -- keep: reply, number and every lent byte afterwards
 pub record KeepReplies (path : List ℤ) (grade : ℕ) (out₀ : List ℕ) (r : Reply) (out₁ : List ℕ) : Type 0 where
@@ -70,6 +76,9 @@ pub record ExportReplies (path : List ℤ) (out₀ : List Float) (r : Reply) (ou
 -- Document 01, "Promises and hollow programs": two outcomes that a call's promise allows coincide.
 abbrev pub OneDrawReply : Type 0
 OneDrawReply = (path : List ℤ) (g : ℕ) (out : List ℤ) (r q : Reply) (o p : List ℤ) → DrawReplies path g out r o → DrawReplies path g out q p → (r ≡ q) × (o ≡ p)
+
+abbrev pub OneDrawKerbReply : Type 0
+OneDrawKerbReply = (points : List ℤ) (g r j c : ℕ) (out : List ℤ) (a b : Reply) (o p : List ℤ) → DrawKerbReplies points g r j c out a o → DrawKerbReplies points g r j c out b p → (a ≡ b) × (o ≡ p)
 
 abbrev pub OneKeepReply : Type 0
 OneKeepReply = (path : List ℤ) (g : ℕ) (out : List ℕ) (r q : Reply) (o p : List ℕ) → KeepReplies path g out r o → KeepReplies path g out q p → (r ≡ q) × (o ≡ p)

@@ -15,7 +15,7 @@ ghost use Rattle.drawing.specs.Drawing.{replyOfDrawn};
 ghost use Rattle.keeping.specs.Keeping.{replyOfKept};
 ghost use Rattle.reading.specs.Reading.{replyOfRead, gradeOfRead};
 ghost use Rattle.editing.specs.Replacing.{replyOfReplaced};
-ghost use Rattle.sehmelir.specs.Boundary.{Replies, DrawReplies, KeepReplies, ReadReplies, ReplaceReplies, ReachReplies, Tells, ImportReplies, ExportReplies};
+ghost use Rattle.sehmelir.specs.Boundary.{Replies, DrawReplies, DrawKerbReplies, KeepReplies, ReadReplies, ReplaceReplies, ReachReplies, Tells, ImportReplies, ExportReplies};
 ghost use Rattle.reaching.specs.Replies.{replyOfReached};
 ghost use Rattle.oldest.specs.Taken.{coordinateOf, widthOf};
 ghost use Rattle.oldest.specs.Answers.{replyOfImported, replyOfExported};
@@ -159,6 +159,21 @@ pub extern "C" fn sehmelir_draw(path: &[i32], grade: u32, out: &mut [i32]) -> Re
     ensures { λ p. ⌜ DrawReplies (now (path .entry)) grade (now (out .entry)) p (now (out .exit)) ⌝ }
 {
     drawn(calls::draw(path, grade, out))
+}
+
+// Draws a kerb's edges into lent numbers, four an edge: two numbers a point, and radius, join (0 bevel, 1 round) and closed (0 or 1) beside them.
+#[no_mangle]
+pub extern "C" fn sehmelir_draw_kerb(
+    points: &[i32],
+    grade: u32,
+    radius: u32,
+    join: u32,
+    closed: u32,
+    out: &mut [i32],
+) -> Reply
+    ensures { λ p. ⌜ DrawKerbReplies (now (points .entry)) grade radius join closed (now (out .entry)) p (now (out .exit)) ⌝ }
+{
+    drawn(calls::draw_kerb(points, grade, radius, join, closed, out))
 }
 
 // Keeps a path's outline as bytes.
