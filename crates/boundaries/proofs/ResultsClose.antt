@@ -1,35 +1,39 @@
 -- What draw wrote and what a sound store holds, read as edges, is the path's edges: so it closes where they do. Assumes nothing.
 use mathlib.Core.Path.{_≡_, refl, sym, ap, _∙_}
-use mathlib.Core.Bool.{true, false}
-use mathlib.Core.List.{List, [], _∷_, _++_}
-use Prim.Native.Nat.{ℕ, suc, _+_, _*_}
+use mathlib.Core.Bool.{false}
+use mathlib.Core.List.{List, [], _∷_, _++_, append-assoc}
+use Prim.Native.Nat.{ℕ, _-_, _*_}
 use native.Mathlib.Nat.{le-antisymm}
 use native.Mathlib.Omega.{arith}
 use borrow.Author.Tests.{ltb-false}
 use lib.IntN.{ℤ}
-use lib.ListN.{length, take, drop}
-use lib.Seq.{take-at, take-all}
+use lib.ListN.{length, take, drop, length-append}
+use lib.Seq.{take-at, drop-at}
 use Rattle.runs.specs.Runs.{spread}
+use Rattle.runs.proofs.Laws.{spread-append}
 use Rattle.turning.specs.Edges.{edgeNumbers}
 use Rattle.turning.specs.declared.Edge.{Edge}
 use Rattle.turning.proofs.Most.{edges-four}
 use Rattle.contacts.specs.Limits.{firstOutside}
+use Rattle.contacts.specs.declared.Vertex.{Vertex}
 use Rattle.contacts.proofs.Allowed.{outside-most}
-use Rattle.paths.specs.Paths.{pathOf, joined, edgesOf, Within}
+use Rattle.paths.specs.Paths.{pathOf, bodiesOf, edgesOf, Within}
 use Rattle.paths.proofs.Reach.{edges-reach}
-use Rattle.outline.specs.Outlines.{bodyWords, outlineBytes}
-use Rattle.outline.specs.Stores.{gradeIn, countIn, pathIn, bodiesIn, soundOf}
-use Rattle.outline.proofs.ReadBack.{bodies-count, path-count-in, grade-back, vertices-back, sound-back}
+use Rattle.outline.specs.Layout.{edgeBytes}
+use Rattle.outline.specs.Outlines.{headerOf, tableOf, bodyWords, wordsWith, outlineWords, outlineBytes}
+use Rattle.outline.specs.Stores.{gradeIn, lengthIn, pathIn}
+use Rattle.outline.proofs.ReadBack.{numbers-length, length-back, header-word}
 use Rattle.replies.specs.Replies.{Reply, triplesRow, gradeRow, countRow, outsideRow, roomRow, pathRows, written}
 use Rattle.replies.proofs.Rows.{NoneHold, first-none, none-last}
 use Rattle.drawing.specs.Drawing.{drawReply, drawOut}
 use Rattle.keeping.proofs.PathKept.{keep-within, keep-out}
-use Rattle.theorems.proofs.ThroughCalls.{body-bytes-in}
+use Rattle.theorems.proofs.ThroughCalls.{sound-begins}
 use Rattle.closing.specs.Closing.{strayOf}
 use Rattle.closing.proofs.PathsClose.{boundary-closes}
-use Rattle.words.specs.Words.{bytesOf, wordsIn}
-use Rattle.boundaries.specs.Results.{edgesFrom, numbersOf, storedEdges, DrawnCloses, SoundCloses, KeptCloses}
-use Rattle.boundaries.proofs.EdgesAgain.{edges-again, bytes-again, before-again}
+use Rattle.words.specs.Words.{fourBytes, bytesOf, wordsIn, wordAt}
+use Rattle.words.proofs.Bytes.{bytes-length}
+use Rattle.boundaries.specs.Results.{edgesFrom, numbersOf, storedEdges, DrawnCloses, StoredCloses, SoundCloses, KeptCloses}
+use Rattle.boundaries.proofs.EdgesAgain.{edges-again, bytes-again}
 
 -- ---- draw
 
@@ -66,25 +70,47 @@ drawn-closes path g m out e s =
 
 -- ---- stores
 
-stored-edges : (s : List ℕ) → Within (gradeIn s) (pathIn s) → soundOf s ≡ true → storedEdges s ≡ edgesOf (gradeIn s) (pathIn s)
-unfolding storedEdges bodiesIn edgesOf
-stored-edges s w e =
-    let bs = bodiesIn s in
-    let n : length bs ≡ suc (length (pathIn s)) = bodies-count (gradeIn s) (pathIn s) in
-    let c : suc (countIn s) ≡ length bs = omega (arith, n, path-count-in s) in
-    let b = before-again s bs (λ i l. body-bytes-in s i w e (omega (arith, l, n))) (suc (countIn s)) (omega (arith, c)) in
-    ap (λ (l : List ℕ). edgesFrom (numbersOf (wordsIn l))) (b ∙ ap (λ (cs : List (List Edge)). bytesOf (bodyWords (joined cs))) (take-all (suc (countIn s)) bs (omega (arith, c))))
-    ∙ bytes-again (joined bs) (edges-reach (gradeIn s) (pathIn s) (w .inside))
+-- a store that begins with an outline: before its edges stand header and table
+module _ (g : ℕ) (vs : List Vertex) (rest : List ℕ) (w : Within g vs) where
+  abbrev store : List ℕ
+  store = outlineBytes g vs ++ rest
+
+  front : List ℕ
+  front = headerOf g (length vs) (length (edgesOf g vs)) ++ tableOf vs (bodiesOf g vs)
+
+  abbrev body : List ℕ
+  body = bytesOf (bodyWords (edgesOf g vs))
+
+  bytes-split : outlineBytes g vs ≡ bytesOf front ++ body
+  unfolding front outlineBytes outlineWords wordsWith edgesOf bytesOf
+  bytes-split =
+      ap (spread fourBytes) (sym (append-assoc (headerOf g (length vs) (length (edgesOf g vs))) (tableOf vs (bodiesOf g vs)) (bodyWords (edgesOf g vs))))
+      ∙ spread-append fourBytes front (bodyWords (edgesOf g vs))
+
+  edge-count : wordAt store 4 ≡ length (edgesOf g vs)
+  unfolding outlineWords wordsWith headerOf edgesOf
+  edge-count = header-word g vs rest w 4
+
+  body-long : length body ≡ edgeBytes * wordAt store 4
+  body-long = omega (arith, bytes-length (bodyWords (edgesOf g vs)), numbers-length (edgesOf g vs), edge-count)
+
+  front-long : length (bytesOf front) ≡ lengthIn store - edgeBytes * wordAt store 4
+  front-long = omega (arith, body-long, length-back g vs rest w, ap length bytes-split, length-append (bytesOf front) body)
+
+  edges-stored : storedEdges store ≡ edgesOf g vs
+  unfolding storedEdges
+  edges-stored =
+      let split : store ≡ bytesOf front ++ (body ++ rest) = ap (λ (l : List ℕ). l ++ rest) bytes-split ∙ append-assoc (bytesOf front) body rest in
+      let n : ℕ = edgeBytes * wordAt store 4 in
+      ap (λ (l : List ℕ). edgesFrom (numbersOf (wordsIn (take n l)))) (ap (drop (lengthIn store - n)) split ∙ drop-at (bytesOf front) (body ++ rest) _ front-long)
+      ∙ ap (λ (l : List ℕ). edgesFrom (numbersOf (wordsIn l))) (take-at body rest n body-long)
+      ∙ bytes-again (edgesOf g vs) (edges-reach g vs (w .inside))
+
+  stored-closes : strayOf vs ≡ false → StoredCloses store
+  stored-closes f = rw (edges-stored, edge-count) (refl, boundary-closes g vs (w .inside) f)
 
 pub sound-closes : SoundCloses
-sound-closes s w e f = rw (stored-edges s w e) (boundary-closes (gradeIn s) (pathIn s) (w .inside) f)
+sound-closes s w e f = rw (sound-begins s e) (stored-closes (gradeIn s) (pathIn s) (drop (lengthIn s) s) w f)
 
 pub kept-closes : KeptCloses
-kept-closes path g out h f =
-    let vs = pathOf path in
-    let rest = drop (length (outlineBytes g vs)) out in
-    let w = keep-within path g (length out) h in
-    let s = outlineBytes g vs ++ rest in
-    let u : Within (gradeIn s) (pathIn s) = rw (grade-back g vs rest w, vertices-back g vs rest w) w in
-    let z : strayOf (pathIn s) ≡ false = rw (vertices-back g vs rest w) f in
-    rw (keep-out path g out h) (sound-closes s u (sound-back g vs rest w) z)
+kept-closes path g out h f = rw (keep-out path g out h) (stored-closes g (pathOf path) (drop (length (outlineBytes g (pathOf path))) out) (keep-within path g (length out) h) f)

@@ -1,14 +1,15 @@
 -- Document 02, request 12, for whoever fills a boundary: what draw wrote, and what a sound outline holds, closes when it is read as edges.
 use mathlib.Core.Path.{_≡_}
 use mathlib.Core.Bool.{true, false}
-use mathlib.Core.List.{List, [], _∷_, _++_}
-use Prim.Native.Nat.{ℕ, zero, suc, _*_}
+use mathlib.Core.List.{List, [], _∷_}
+use Prim.Native.Nat.{ℕ, _-_, _*_}
 use lib.IntN.{ℤ}
-use lib.ListN.{length, take}
+use lib.ListN.{length, take, drop}
 use Rattle.turning.specs.declared.Edge.{Edge}
 use Rattle.paths.specs.Paths.{pathOf, Within}
-use Rattle.words.specs.Words.{numberOf, wordsIn}
-use Rattle.outline.specs.Stores.{gradeIn, countIn, pathIn, soundOf, bodyBytesIn}
+use Rattle.words.specs.Words.{numberOf, wordsIn, wordAt}
+use Rattle.outline.specs.Layout.{edgeBytes}
+use Rattle.outline.specs.Stores.{gradeIn, lengthIn, pathIn, soundOf}
 use Rattle.drawing.specs.Drawing.{drawReply, drawOut}
 use Rattle.keeping.specs.Keeping.{keepReply, keepOut}
 use Rattle.closing.specs.Closing.{Balanced, strayOf}
@@ -32,18 +33,18 @@ unfoldable pub numbersOf : List ℕ → List ℤ
 numbersOf [] = []
 numbersOf (w ∷ ws) = numberOf w ∷ numbersOf ws
 
--- The bytes of the bodies before body i, one after another.
-unfoldable pub bytesBefore : List ℕ → ℕ → List ℕ
-bytesBefore store zero = []
-bytesBefore store (suc i) = bytesBefore store i ++ bodyBytesIn store i
-
--- The edges that stand in a store, those of the closing body last.
+-- The edges that stand in a store: its header counts them, and they are the last bytes of the outline.
 unfoldable pub storedEdges : List ℕ → List Edge
-storedEdges store = edgesFrom (numbersOf (wordsIn (bytesBefore store (suc (countIn store)))))
+storedEdges store =
+    let n : ℕ = edgeBytes * wordAt store 4 in
+    edgesFrom (numbersOf (wordsIn (take n (drop (lengthIn store - n) store))))
 
--- Those of a sound store close, with the same exception; and so do those that keep wrote.
+-- In a sound store they are as many as its header says and close, with the same exception; and so it is in what keep wrote.
+abbrev pub StoredCloses : List ℕ → Type 0
+StoredCloses s = (length (storedEdges s) ≡ wordAt s 4) × Balanced (storedEdges s)
+
 abbrev pub SoundCloses : Type 0
-SoundCloses = (s : List ℕ) → Within (gradeIn s) (pathIn s) → soundOf s ≡ true → strayOf (pathIn s) ≡ false → Balanced (storedEdges s)
+SoundCloses = (s : List ℕ) → Within (gradeIn s) (pathIn s) → soundOf s ≡ true → strayOf (pathIn s) ≡ false → StoredCloses s
 
 abbrev pub KeptCloses : Type 0
-KeptCloses = (path : List ℤ) (g : ℕ) (out : List ℕ) → keepReply path g (length out) .0 ≡ 0 → strayOf (pathOf path) ≡ false → Balanced (storedEdges (keepOut path g out))
+KeptCloses = (path : List ℤ) (g : ℕ) (out : List ℕ) → keepReply path g (length out) .0 ≡ 0 → strayOf (pathOf path) ≡ false → StoredCloses (keepOut path g out)

@@ -36,7 +36,7 @@ use Rattle.reaching.proofs.TheNumber.{number-is, lesser}
 -- ---- the bytes of a body in a sound store
 
 -- a sound store begins with what is due
-sound-begins : (s : List ℕ) → soundOf s ≡ true → s ≡ outlineBytes (gradeIn s) (pathIn s) ++ drop (lengthIn s) s
+pub sound-begins : (s : List ℕ) → soundOf s ≡ true → s ≡ outlineBytes (gradeIn s) (pathIn s) ++ drop (lengthIn s) s
 unfolding soundOf dueIn
 sound-begins s e = sym (take-append-drop (lengthIn s) s) ∙ ap (λ (l : List ℕ). l ++ drop (lengthIn s) s) (same-is (take (lengthIn s) s) (dueIn s) e)
 
