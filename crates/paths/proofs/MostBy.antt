@@ -40,25 +40,25 @@ module _ (t : Vector) (a : ℕ) (low : 1 ≤ a) (circles : (c : Point) (r : ℤ)
   unfolding arcAbout
   about-by v p q choice = arcs (centreOf v) (innerOf v p) p q choice
 
-  start-by : (s : Section) (k : Cap) → Most a (startCap t s k)
+  pub start-by : (s : Section) (k : Cap) → Most a (startCap t s k)
   unfolding startCap
   start-by s Butt = most-up low (edge-most (s .left .a) (s .right .a))
   start-by s Round = about-by (s .a) (s .left .a) (s .right .a) (startChoice (s .trend))
 
-  end-by : (s : Section) (k : Cap) → Most a (endCap t s k)
+  pub end-by : (s : Section) (k : Cap) → Most a (endCap t s k)
   unfolding endCap
   end-by s Butt = most-up low (edge-most (s .right .b) (s .left .b))
   end-by s Round = about-by (s .b) (s .right .b) (s .left .b) (endChoice (s .trend))
 
-  left-by : (m n : Section) → Most a (leftJoin t m n)
+  pub left-by : (m n : Section) → Most a (leftJoin t m n)
   unfolding leftJoin
   left-by m n = most-if (leftTurns m n) (about-by _ _ _ _) (most-up low (edge-most _ _))
 
-  right-by : (m n : Section) → Most a (rightJoin t m n)
+  pub right-by : (m n : Section) → Most a (rightJoin t m n)
   unfolding rightJoin
   right-by m n = most-if (rightTurns m n) (about-by _ _ _ _) (most-up low (edge-most _ _))
 
-  gap-by : (m n : Section) → Most (a + a) (gapOf t m n)
+  pub gap-by : (m n : Section) → Most (a + a) (gapOf t m n)
   unfolding gapOf
   gap-by m n = most-both (end-by m Butt) (start-by n Butt)
 

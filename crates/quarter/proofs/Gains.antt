@@ -48,7 +48,7 @@ pub rests : (t d e : Vector) → UnitLong e → Most (3 * 2 ^ 29 * 2 ^ 30) (cros
 unfolding crossOf dotOf
 rests t d e h = record { most = rw (add-commℤ (restOf t d .x *ℤ e .x) (restOf t d .y *ℤ e .y)) (most-product (restOf t d .x) (restOf t d .y) (e .y) (e .x) (rest-most t d) (most-turned (unit-most e h)) .most) }
 
--- ---- what a rotation adds: p is the dot product with the end and q the cross product, u and v are those after it; c and s are the step's parts, f is its excess
+-- ---- what a rotation adds: p and q are the dot and cross product with the end, u and v those after it, c and s the step's parts, f its excess
 
 -- a product with 2 ^ 30
 lifted : (u : ℤ) → (up (u *ℤ pos (2 ^ 30)) ≡ up u * 2 ^ 30) × (down (u *ℤ pos (2 ^ 30)) ≡ down u * 2 ^ 30)
