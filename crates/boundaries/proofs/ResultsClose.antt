@@ -23,7 +23,7 @@ use Rattle.outline.specs.Layout.{edgeBytes}
 use Rattle.outline.specs.Outlines.{headerOf, tableOf, bodyWords, wordsWith, outlineWords, outlineBytes}
 use Rattle.outline.specs.Stores.{gradeIn, lengthIn, pathIn}
 use Rattle.outline.proofs.ReadBack.{numbers-length, length-back, header-word}
-use Rattle.replies.specs.Replies.{Reply, triplesRow, gradeRow, countRow, outsideRow, roomRow, pathRows, written}
+use Rattle.replies.specs.Replies.{Reply, triplesRow, gradeRow, countRow, outsideRow, emptyRow, roomRow, pathRows, written}
 use Rattle.replies.proofs.Rows.{NoneHold, first-none, none-last}
 use Rattle.drawing.specs.Drawing.{drawReply, drawOut}
 use Rattle.keeping.proofs.PathKept.{keep-within, keep-out}
@@ -41,9 +41,9 @@ module _ (path : List ℤ) (g room : ℕ) (h : drawReply path g room .0 ≡ 0) w
   abbrev edges : List Edge
   edges = edgesOf g (pathOf path)
 
-  draw-none : NoneHold (pathRows path g ++ (roomRow (4 * length edges) room (length edges) ∷ []))
-  unfolding drawReply pathRows triplesRow gradeRow countRow outsideRow roomRow
-  draw-none = first-none _ _ (refl, (refl, (refl, (refl, (refl, tt))))) h
+  draw-none : NoneHold (pathRows path g ++ (emptyRow (length (pathOf path)) (length edges) ∷ roomRow (4 * length edges) room (length edges) ∷ []))
+  unfolding drawReply pathRows triplesRow gradeRow countRow outsideRow emptyRow roomRow
+  draw-none = first-none _ _ (refl, (refl, (refl, (refl, (refl, (refl, tt)))))) h
 
   draw-inside : firstOutside (pathOf path) ≡ length (pathOf path)
   unfolding pathRows outsideRow
