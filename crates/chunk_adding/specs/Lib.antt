@@ -1,3 +1,2 @@
--- What the contracts cite, and the theorems.
+-- What the contracts cite.
 pub mod Adding
-pub mod Theorems

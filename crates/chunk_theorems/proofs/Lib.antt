@@ -1,2 +1,4 @@
 -- The crate's own laws.
+pub mod Adding
 pub mod InPlace
+pub mod StorePassed

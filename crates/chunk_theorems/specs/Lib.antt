@@ -1,2 +1,3 @@
 -- The theorems.
+pub mod AfterAdd
 pub mod InChunks

@@ -1,1 +1,1 @@
-// A vertex replaced in an outline of a chunk: no code.
+// An outline added to a chunk, and a vertex replaced in one: no code.

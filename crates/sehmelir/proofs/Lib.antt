@@ -1,3 +1,4 @@
 -- The crate's own laws.
 pub mod Told
 pub mod OneReply
+pub mod ChunkTold

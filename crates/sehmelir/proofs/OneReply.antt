@@ -5,7 +5,7 @@ use Rattle.replies.specs.Replies.{Reply as Answer}
 use Rattle.sehmelir.specs.Boundary.{Replies, OneDrawReply, OneDrawKerbReply, OneKeepReply, OneReadReply, OneReplaceReply, OneReachReply, OneTelling, OneImportReply, OneExportReply}
 use Rattle.sehmelir.specs.declared.Reply.{Reply}
 
-one-reply : (t : Answer) (g : ℕ) (r q : Reply) → Replies r t g → Replies q t g → r ≡ q
+pub one-reply : (t : Answer) (g : ℕ) (r q : Reply) → Replies r t g → Replies q t g → r ≡ q
 one-reply t g r q a b =
     λ i. record { reply = (a .reply ∙ sym (b .reply)) i; grade = (a .grade ∙ sym (b .grade)) i; number = (a .number ∙ sym (b .number)) i }
 

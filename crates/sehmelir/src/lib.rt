@@ -20,6 +20,8 @@ ghost use Rattle.reaching.specs.Replies.{replyOfReached};
 ghost use Rattle.oldest.specs.Taken.{coordinateOf, widthOf};
 ghost use Rattle.oldest.specs.Answers.{replyOfImported, replyOfExported};
 
+pub mod chunk_calls;
+
 // Document 01's reply, the grade beside it (of a read outline, else 0), and the number with it.
 #[repr(C)]
 pub struct Reply {

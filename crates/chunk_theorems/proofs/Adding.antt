@@ -15,12 +15,12 @@ use Rattle.checking.specs.StoreRows.{storeRows}
 use Rattle.chunk_table.specs.Tables.{damagedIn}
 use Rattle.chunks.specs.Calls.{putReply, putOut, findReply, changed}
 use Rattle.chunk_laws.specs.Theorems.{foundBytes}
 use Rattle.chunk_adding.specs.Adding.{ownBytes, addReply, addOut}
-use Rattle.chunk_adding.specs.Theorems.{AddedIsSound, AddedIsFound, AddingKeeps}
+use Rattle.chunk_theorems.specs.AfterAdd.{AddedIsSound, AddedIsFound, AddingKeeps}
 use Rattle.chunk_table.proofs.Below.{test}
 use Rattle.chunk_laws.proofs.AfterPut.{put-is-sound, put-is-found, putting-keeps}
 use Rattle.chunk_adding.proofs.Added.{reply-damaged, reply-rows, as-put-reply, as-put}
-use Rattle.chunk_adding.proofs.StorePassed.{rows-zero, store-coded, passed-long, passed-due, outline-some}
+use Rattle.chunk_theorems.proofs.StorePassed.{rows-zero, store-coded, passed-long, passed-due, outline-some}
 
 -- after 0: the table was sound, and the chunk is that of putting the outline's own bytes
 record AddedIs (c : List ℕ) (key : ℕ) (s : List ℕ) : Type 0 where

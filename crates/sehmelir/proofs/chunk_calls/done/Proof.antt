@@ -1,0 +1,38 @@
+-- `sehmelir::chunk_calls::done` meets its contract: each answer has its number. Assumes nothing.
+use mathlib.Core.Path.{sym, ap}
+use borrow.Author.Needs.{needs}
+use Rattle.chunks.specs.Answers.{replyOfDone}
+use Rattle.sehmelir.proofs.Told.{told, told-as}
+use Rattle.sehmelir.proofs.chunk_calls.done.Statement.{statement}
+use Rattle.sehmelir.proofs.chunk_calls.done.Tie as tie
+
+enum-known-answer : tie.Need-enum-known-answer
+enum-known-answer c = search needs
+
+plain-requires : tie.Need-plain-requires
+plain-requires c κs = search needs
+
+enum-known-answer-2 : tie.Need-enum-known-answer-2
+enum-known-answer-2 c = search needs
+
+refusal-requires : tie.Need-refusal-requires
+refusal-requires c κs = search needs
+
+returns : tie.Need-returns
+unfolding replyOfDone
+returns c = told (ap replyOfDone (sym (c .before .before .answer .given .1))) (c .plain .ensures)
+
+returns-2 : tie.Need-returns-2
+unfolding replyOfDone
+returns-2 c = told-as (ap replyOfDone (sym (c .before .before .answer2 .given .1))) (c .refusal .ensures)
+
+pub done-spec : {M : Type 1} → statement M
+done-spec =
+    tie.close
+    (tie.spec
+    enum-known-answer
+    plain-requires
+    enum-known-answer-2
+    refusal-requires
+    returns
+    returns-2)
