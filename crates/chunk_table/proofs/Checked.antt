@@ -20,6 +20,10 @@ use Rattle.chunk_table.proofs.Standing.{Before, StandsFrom, stands-next
 pub spot-low : (c order : List ℕ) (field mid : ℕ) {word v : ℕ} → v ≡ fieldIn c field (getD order mid 0) → v ≤ word → fieldIn c field (getD order (mid + 1 - 1) 0) ≤ word
 spot-low c order field mid e h = let q : mid + 1 - 1 ≡ mid = omega arith in rw q (omega arith)
 
+-- the last of them is an entry too
+pub last-in : {n m : ℕ} {order : List ℕ} → EntriesIn n order m → (m ≡ 0 → ⊥) → getD order (m - 1) 0 < n
+last-in {m = m} h e = h .entries (m - 1) (⊎-elim (λ l. omega arith) (λ l. absurd (e (omega arith))) (less-or 0 m))
+
 -- ---- one behind another
 
 module _ (c : List ℕ) {d : List ℕ} (at : ℕ) {g : Bool} (e : strungIn c d at ≡ g) where
