@@ -25,7 +25,7 @@ pub enum Drawn {
 }
 
 // The first m numbers of one row into another that has room for them.
-fn copy(from: &[i32], m: usize, out: &mut [i32])
+pub fn copy(from: &[i32], m: usize, out: &mut [i32])
     requires { ⌜ (m ≤ length (now from)) × (m ≤ length (now out)) ⌝ }
     ensures { λ _. ⌜ now (out .exit) ≡ over put (now (out .entry)) 0 (take m (now (from .entry))) ⌝ }
 {

@@ -1,13 +1,13 @@
--- What drawing a kerb answers, case by case; and a kerb with edges is drawn into room enough. Assumes nothing.
+-- What drawing a kerb answers, case by case; what own numbers hold of it; and a kerb with edges is drawn into room enough. Assumes nothing.
 use mathlib.Core.Path.{_≡_, refl, sym, ap, _∙_}
 use mathlib.Core.List.{List, [], _∷_}
-use Prim.Native.Nat.{ℕ, zero, suc, _*_, _/_, _≤_, _<_}
+use Prim.Native.Nat.{ℕ, _*_, _/_, _≤_, _<_}
 use native.Mathlib.Omega.{arith}
 use lib.IntN.{ℤ, pos}
-use lib.ListN.{length}
-use Rattle.runs.specs.Runs.{spread, Runs, put}
+use lib.ListN.{length, take}
+use Rattle.runs.specs.Runs.{spread, over, Runs, put}
 use Rattle.runs.proofs.Laws.{runs-none, runs-as}
-use Rattle.runs.proofs.Written.{written-whole}
+use Rattle.runs.proofs.Written.{written-length, written-behind, written-whole}
 use Rattle.turning.specs.Edges.{edgeNumbers}
 use Rattle.turning.specs.declared.Edge.{Edge}
 use Rattle.turning.proofs.Most.{edges-four}
@@ -27,7 +27,18 @@ use Rattle.kerb_rows.specs.declared.KerbCheck.the-variants.{Refused}
 use Rattle.kerb_rows.proofs.KerbChecks.{within-passes, kerb-refuses, due-told, count-told}
 use Rattle.drawing.specs.Drawing.{replyOfDrawn}
 use Rattle.drawing.specs.declared.Drawn.the-variants as drawn
+use Rattle.kerb_drawing.specs.Counted.{Counted}
 use Rattle.kerb_drawing.specs.KerbDrawing.{drawKerbReply, drawKerbOut, DrawsKerb, KerbIsDrawn}
+
+-- ---- edges counted over own numbers
+
+pub counted-told : {own₀ own₁ : List ℤ} {es : List Edge} {m : ℕ} → Runs put edgeNumbers own₀ 0 es own₁ m → Counted es own₁ m
+counted-told p = record { size = omega (arith, p .pos); held = λ k. written-behind (omega (arith, k, written-length p)) p }
+
+pub counted-put : {own out out₁ : List ℤ} {es : List Edge} {m : ℕ} → Counted es own m → m ≤ length own → out₁ ≡ over put out 0 (take m own) → Runs put edgeNumbers out 0 es out₁ m
+counted-put {out = out} h k e = record { out = e ∙ ap (over put out 0) (h .held k); pos = omega (arith, h .size) }
+
+-- ---- answers
 
 module _ (l : List ℤ) (g r j c : ℕ) where
   -- a refusal changes nothing
@@ -58,19 +69,14 @@ module _ (l : List ℤ) (g r j c : ℕ) where
       count-due : w / 4 ≡ length (kerbDue l g r j c)
       count-due = omega (arith, numbers-due)
 
-      pub kerb-bare : (out : List ℤ) → w ≡ 0 → (n ≡ 0 → ⊥) → DrawsKerb l g r j c out (drawn.Refused (WithoutEdges n)) out
+      pub kerb-bare : (out : List ℤ) → w ≡ 0 → 0 < n → DrawsKerb l g r j c out (drawn.Refused (WithoutEdges n)) out
       unfolding refusalOf
       kerb-bare out z k =
-          let some : 0 < length (kerbPath (pos r) l) = go n k (h .count) in
-          refuses (WithoutEdges n) out (sym (further (length out) ∙ empty-holds (length (kerbPath (pos r) l)) (length (kerbDue l g r j c)) _ _ some (omega (arith, numbers-due, z)) ∙ ap (λ (i : ℕ). (18, i)) (sym (h .count))))
-        where
-          go : (i : ℕ) → (i ≡ 0 → ⊥) → i ≡ length (kerbPath (pos r) l) → 0 < length (kerbPath (pos r) l)
-          go zero f q = absurd (f refl)
-          go (suc i) f q = omega (arith, q)
+          refuses (WithoutEdges n) out (sym (further (length out) ∙ empty-holds (length (kerbPath (pos r) l)) (length (kerbDue l g r j c)) _ _ (omega (arith, h .count, k)) (omega (arith, numbers-due, z)) ∙ ap (λ (i : ℕ). (18, i)) (sym (h .count))))
 
-      pub kerb-short : (out : List ℤ) → (w ≡ 0 → ⊥) → length out < w → DrawsKerb l g r j c out (drawn.Refused (NoRoom (w / 4))) out
+      pub kerb-short : (out : List ℤ) → length out < w → DrawsKerb l g r j c out (drawn.Refused (NoRoom (w / 4))) out
       unfolding refusalOf
-      kerb-short out z k =
+      kerb-short out k =
           let m = length (kerbDue l g r j c) in
           refuses (NoRoom (w / 4)) out (sym (further (length out) ∙ empty-fails (length (kerbPath (pos r) l)) m _ _ (omega (arith, numbers-due, k)) ∙ room-short (4 * m) (length out) m (0, m) (omega (arith, numbers-due, k)) ∙ ap (λ (i : ℕ). (5, i)) (sym count-due)))
 
