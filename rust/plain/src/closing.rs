@@ -64,6 +64,7 @@ mod tests {
     use super::*;
     use crate::arcs::MOST_ROTATIONS;
     use crate::chains::walk;
+    use crate::random::Random;
 
     fn path(triples: &[[i64; 3]]) -> Vec<Vertex> {
         let vertex = |&[x, y, radius]: &[i64; 3]| Vertex::new(x, y, radius);
@@ -111,6 +112,45 @@ mod tests {
         }
         let away = watched(&small[..3], 1);
         assert!(!away.stray && unbalanced(&away.edges).is_none());
+    }
+
+    /// A pen for caps alone: how many arcs of theirs have one end at the centre
+    /// and one elsewhere, and how many have both there.
+    #[derive(Default)]
+    struct Caps {
+        stray: usize,
+        shut: usize,
+    }
+
+    impl Pen for Caps {
+        fn edge(&mut self, _: Point, _: Point) {}
+
+        fn arc(&mut self, _: Point, centre: Point, from: Point, to: Point, _: Sweep) {
+            self.stray += ((from == centre) != (to == centre)) as usize;
+            self.shut += (from == centre && to == centre) as usize;
+        }
+
+        fn circle(&mut self, _: Point, _: Point, _: i64) {}
+
+        fn join_arc(&mut self, _: Point, _: Point, _: Point, _: Point, _: Sweep) {}
+    }
+
+    #[test]
+    fn caps_never_have_the_exception() {
+        let mut random = Random::new(28);
+        let mut caps = Caps::default();
+        for _ in 0..50_000 {
+            let side = random.pick(&[2, 4, 9, 300]);
+            let wide = random.pick(&[2, 3, 60]);
+            let vertex = |random: &mut Random| {
+                let (x, y) = (random.between(-side, side), random.between(-side, side));
+                Vertex::new(x, y, random.between(0, wide))
+            };
+            let path: Vec<Vertex> = (0..6).map(|_| vertex(&mut random)).collect();
+            trace(&path, 1, &mut caps, |_| ());
+        }
+        assert_eq!(caps.stray, 0);
+        assert!(caps.shut > 1_000);
     }
 
     #[test]
