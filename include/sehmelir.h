@@ -33,7 +33,7 @@
  * Lent memory, for all calls:
  *
  * - Lengths count elements: int32_t in a path or in edges, float in the oldest
- *   chunks, bytes in a store.
+ *   chunks, bytes in a store or a chunk.
  * - A pointer is never null and is aligned for its type, even where the length
  *   is 0. Where there is nothing to lend, pass the address of any variable of
  *   the type, and 0:
@@ -49,13 +49,15 @@
  * - After a refusal (any reply but 0) no lent memory has changed.
  * - After reply 0 the result stands at the front of the memory it was lent,
  *   and the memory past the result is as it was, but for the zeros after a
- *   replaced outline that shrank (see sehmelir_replace).
+ *   replaced outline that shrank (see sehmelir_replace). What the calls of a
+ *   chunk leave in it is said with each.
  *
  * The calls allocate nothing, keep nothing between calls, and may run in
- * several threads at once. On the stack sehmelir_draw takes up to 528 KiB, and
- * sehmelir_keep, sehmelir_read, sehmelir_replace and sehmelir_reach up to
- * 256 KiB, so a thread that calls them needs more than that; the others take
- * below 1 KiB.
+ * several threads at once. On the stack sehmelir_draw takes up to 528 KiB,
+ * sehmelir_keep, sehmelir_read, sehmelir_replace, sehmelir_reach and
+ * sehmelir_chunk_add up to 256 KiB, and sehmelir_chunk_find, sehmelir_chunk_remove
+ * and sehmelir_chunk_compact up to 32 KiB, so a thread that calls them needs more
+ * than that; the others take below 1 KiB.
  *
  * It is proved of each call that its reply and all lent memory afterwards are
  * what the rules give. The proof rests on memory being lent as said above.
@@ -448,7 +450,7 @@ struct sehmelir_reply sehmelir_chunk_add(uint8_t *chunk, size_t chunk_len,
  *     0 SEHMELIR_DONE         the outline stands at `offset`, in `length` bytes
  *                             number: the length
  *
- * The chunk is only read.
+ * The chunk is only read. Takes up to 32 KiB of stack.
  */
 struct sehmelir_part sehmelir_chunk_find(const uint8_t *chunk, size_t chunk_len,
                                          uint32_t key);
@@ -464,6 +466,8 @@ struct sehmelir_part sehmelir_chunk_find(const uint8_t *chunk, size_t chunk_len,
  *                             number: the key
  *     0 SEHMELIR_DONE         entry and outline are zeros
  *                             number: the bytes that the entry had
+ *
+ * Takes up to 32 KiB of stack.
  */
 struct sehmelir_reply sehmelir_chunk_remove(uint8_t *chunk, size_t chunk_len,
                                             uint32_t key);
@@ -478,6 +482,8 @@ struct sehmelir_reply sehmelir_chunk_remove(uint8_t *chunk, size_t chunk_len,
  *    14 SEHMELIR_DAMAGED      the table is damaged
  *                             number: 0
  *     0 SEHMELIR_DONE         number: the bytes before the gap
+ *
+ * Takes up to 32 KiB of stack.
  */
 struct sehmelir_reply sehmelir_chunk_compact(uint8_t *chunk, size_t chunk_len);
 

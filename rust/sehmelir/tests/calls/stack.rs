@@ -1,13 +1,18 @@
 //! How much stack the calls take.
 
-use sehmelir::{draw, keep, reach, read, replace, Refusal};
+use sehmelir::{draw, keep, outline, reach, read, replace, Chunk, Refusal};
 use std::thread::Builder;
 
 /// What draw may take, and some for the thread that calls it.
 const FOR_DRAW: usize = sehmelir::STACK + 32 * 1024;
 
-/// What keep, read, replace and reach may take, and as much for the thread.
+/// What keep, read, replace, reach and a chunk's add may take, and as much for
+/// the thread.
 const FOR_OTHERS: usize = (256 + 32) * 1024;
+
+/// What a chunk's find, remove and compact may take, and as much for the
+/// thread. The system may give a thread more than that.
+const FOR_CHUNKS: usize = (32 + 32) * 1024;
 
 /// Each call in a thread whose stack is hardly larger than what it is said to
 /// take: on as many vertices as there may be, and on the finest grade.
@@ -38,6 +43,30 @@ fn is_at_most_what_is_said() {
             assert_eq!(reach(&store, 0), Ok(2));
         });
     }
+}
+
+/// The calls of a chunk, on as many entries as there may be, whose keys and
+/// offsets are in no order.
+#[test]
+fn of_chunks_is_at_most_what_is_said() {
+    let wide = outline(&[0, 0, 500, 2000, 0, 400, 4000, 900, 300], 8).unwrap();
+    let small = outline(&[0, 0, 10], 1).unwrap();
+    let mut chunk = Chunk::make(vec![0; 200_000 + wide.len()], 1024).unwrap();
+    for place in 0..1023 {
+        chunk.add(place * 7919 % 1023, &small).unwrap();
+        if place % 3 == 2 {
+            chunk.remove((place - 1) * 7919 % 1023).unwrap();
+        }
+    }
+    let mut chunk = on_a_stack_of(FOR_OTHERS, move || {
+        assert_eq!(chunk.add(4000, &wide), Ok(wide.len()));
+        chunk
+    });
+    on_a_stack_of(FOR_CHUNKS, move || {
+        assert!(chunk.find(0).is_ok() && chunk.find(4001).is_err());
+        assert_eq!(chunk.remove(0), Ok(168));
+        assert!(chunk.compact().is_ok());
+    });
 }
 
 /// What `calls` gives, in a thread of its own.
