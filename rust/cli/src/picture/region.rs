@@ -125,8 +125,10 @@ fn beyond(frame: Frame, point: Point) -> u8 {
 
 #[cfg(test)]
 mod tests {
-    use super::{chained, within};
+    use super::{chained, within, Loops};
+    use crate::calls;
     use crate::picture::frame::{Frame, Point};
+    use crate::sheet::Sheet;
 
     fn points(loop_of: &[(i32, i32)]) -> Vec<Point> {
         loop_of.iter().map(|&(x, y)| Point::of(x, y)).collect()
@@ -169,5 +171,69 @@ mod tests {
             .eq(due[..4].iter().copied()));
         let away = points(&[(20, 0), (30, 0), (30, 9), (20, 0)]);
         assert!(within(seen, &away).is_empty());
+    }
+
+    /// Numbers from 0 to below a bound, the same at each run.
+    fn numbers() -> impl FnMut(i32) -> i32 {
+        let mut state = 12345u64;
+        move |bound| {
+            state = state.wrapping_mul(6364136223846793005).wrapping_add(1);
+            ((state >> 33) % bound as u64) as i32
+        }
+    }
+
+    #[test]
+    fn loops_have_each_edge_once() {
+        let mut below = numbers();
+        for grade in 1..=8 {
+            let vertex = |_| [below(900), below(900), 2 + below(90)];
+            let path: Vec<[i32; 3]> = (0..40).map(vertex).collect();
+            let sheet = calls::keep(path.as_flattened(), grade).unwrap();
+            let sheet = Sheet::sound(sheet).unwrap();
+            let Loops(loops) = Loops::of(&sheet).unwrap();
+            let ends = |a: Point, b: Point| [a.x, a.y, b.x, b.y];
+            let pairs = loops.iter().flat_map(|points| points.windows(2));
+            let mut drawn: Vec<_> = pairs.map(|pair| ends(pair[0], pair[1])).collect();
+            let edge = |[ax, ay, bx, by]: [i32; 4]| ends(Point::of(ax, ay), Point::of(bx, by));
+            let mut due: Vec<_> = sheet.edges(0..sheet.edge_count()).map(edge).collect();
+            drawn.sort_unstable();
+            due.sort_unstable();
+            assert!(drawn == due);
+        }
+    }
+
+    /// How often lines that make loops go about a point of none of them.
+    fn winding(lines: &[[Point; 2]], at: Point) -> i32 {
+        let turn = |[a, b]: &[Point; 2]| {
+            let side = (b.x - a.x) * (at.y - a.y) - (b.y - a.y) * (at.x - a.x);
+            match (a.y <= at.y, b.y <= at.y) {
+                (true, false) if side > 0 => 1,
+                (false, true) if side < 0 => -1,
+                _ => 0,
+            }
+        };
+        lines.iter().map(turn).sum()
+    }
+
+    #[test]
+    fn what_is_inside_is_the_same_all_over_the_view() {
+        let mut below = numbers();
+        let seen = Frame::about(Point::of(0, 0), 256 * 10);
+        for _ in 0..2_000 {
+            let point = |_| (below(81) - 40, below(81) - 40);
+            let mut corners: Vec<(i32, i32)> = (0..9).map(point).collect();
+            corners.push(corners[0]);
+            let points = points(&corners);
+            let whole: Vec<[Point; 2]> = points.windows(2).map(|p| [p[0], p[1]]).collect();
+            let fewer = within(seen, &points);
+            for _ in 0..20 {
+                // beside every corner; lines through the view are in both
+                let at = Point {
+                    x: (256 * (below(19) - 9)).into(),
+                    y: i64::from(256 * (below(19) - 9)) + 100,
+                };
+                assert_eq!(winding(&fewer, at), winding(&whole, at));
+            }
+        }
     }
 }
