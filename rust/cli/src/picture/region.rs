@@ -7,6 +7,8 @@ use super::frame::{Frame, Point};
 use super::pen::Pen;
 use super::view::View;
 use crate::sheet::Sheet;
+use std::iter::zip;
+use std::mem::replace;
 
 /// What lies this part of a view's width beyond one of its sides is not seen,
 /// the width of a line included.
@@ -38,56 +40,92 @@ impl Loops {
     }
 }
 
-/// The loops that edges chain into, if as many start as end at each point. At
-/// a point it goes on with the first edge from there that is left.
+/// The loops that edges chain into, if as many start as end at each point.
 fn chained(edges: &[[i32; 4]]) -> Option<Vec<Vec<Point>>> {
-    let mut leaving = Leaving::of(edges)?;
+    let mut left = Left::of(edges)?;
     let mut loops = Vec::new();
-    for edge in edges {
-        let [x, y, ..] = *edge;
-        while let Some(first) = leaving.next([x, y]) {
-            let mut points = vec![Point::of(x, y)];
-            let mut at = first;
-            while at != [x, y] {
-                points.push(Point::of(at[0], at[1]));
-                at = leaving.next(at)?;
-            }
-            points.push(Point::of(x, y));
-            loops.push(points);
+    for first in 0..edges.len() {
+        if !left.take(first) {
+            continue;
         }
+        let [start, mut at] = ends_of(edges[first]);
+        let mut points = vec![point_of(start), point_of(at)];
+        let mut edge = first;
+        while at != start {
+            edge = left.take_after(edge)?;
+            at = ends_of(edges[edge])[1];
+            points.push(point_of(at));
+        }
+        loops.push(points);
     }
     Some(loops)
 }
 
-/// The edges that are left, by the point that they start at.
-struct Leaving {
-    /// Start and end of each edge, in the order of starts.
-    edges: Vec<([i32; 2], [i32; 2])>,
-    /// How many edges are gone, kept at the first edge of each start.
-    gone: Vec<u32>,
+/// An edge's start and end.
+fn ends_of([ax, ay, bx, by]: [i32; 4]) -> [[i32; 2]; 2] {
+    [[ax, ay], [bx, by]]
 }
 
-impl Leaving {
+/// A point of a sheet, as frames count.
+fn point_of([x, y]: [i32; 2]) -> Point {
+    Point::of(x, y)
+}
+
+/// The edges that are left to be chained.
+struct Left<'a> {
+    edges: &'a [[i32; 4]],
+    taken: Vec<bool>,
+    /// The starts in their order, each with its edge.
+    starts: Vec<([i32; 2], u32)>,
+    /// How many edges of a start were looked at, kept at the first of them.
+    looked_at: Vec<u32>,
+}
+
+impl Left<'_> {
     /// All edges, if as many start as end at each point.
-    fn of(edges: &[[i32; 4]]) -> Option<Leaving> {
-        let ends_of = |&[ax, ay, bx, by]: &[i32; 4]| ([ax, ay], [bx, by]);
-        let mut edges: Vec<_> = edges.iter().map(ends_of).collect();
-        let mut ends: Vec<[i32; 2]> = edges.iter().map(|&(_, end)| end).collect();
-        edges.sort_by_key(|&(start, _)| start);
+    fn of(edges: &[[i32; 4]]) -> Option<Left<'_>> {
+        let ends = edges.iter().map(|&edge| ends_of(edge));
+        let (starts, mut ends): (Vec<_>, Vec<_>) = ends.map(|[start, end]| (start, end)).unzip();
+        let mut starts: Vec<_> = zip(starts, 0..).collect();
+        starts.sort_unstable();
         ends.sort_unstable();
-        let balanced = edges.iter().map(|&(start, _)| start).eq(ends);
-        let gone = vec![0; edges.len()];
-        balanced.then_some(Leaving { edges, gone })
+        let balanced = starts.iter().map(|&(start, _)| start).eq(ends);
+        balanced.then_some(Left {
+            edges,
+            taken: vec![false; edges.len()],
+            looked_at: vec![0; edges.len()],
+            starts,
+        })
     }
 
-    /// The end of the first edge that is left at a point; it then is gone.
-    fn next(&mut self, point: [i32; 2]) -> Option<[i32; 2]> {
-        let first = self.edges.partition_point(|&(start, _)| start < point);
-        let gone = self.gone.get_mut(first)?;
-        let left = self.edges.get(first + *gone as usize);
-        let &(_, end) = left.filter(|(start, _)| *start == point)?;
-        *gone += 1;
-        Some(end)
+    /// Takes an edge, if it is left.
+    fn take(&mut self, edge: usize) -> bool {
+        !replace(&mut self.taken[edge], true)
+    }
+
+    /// Takes an edge that starts where another ends: the next of the sheet, as
+    /// mostly it does, or the first that is left there.
+    fn take_after(&mut self, edge: usize) -> Option<usize> {
+        let [_, at] = ends_of(self.edges[edge]);
+        let next = edge + 1;
+        if self
+            .edges
+            .get(next)
+            .is_some_and(|&next| ends_of(next)[0] == at)
+            && self.take(next)
+        {
+            return Some(next);
+        }
+        let first = self.starts.partition_point(|&(start, _)| start < at);
+        loop {
+            let looked_at = self.looked_at.get_mut(first)?;
+            let place = self.starts.get(first + *looked_at as usize);
+            let &(_, edge) = place.filter(|(start, _)| *start == at)?;
+            *looked_at += 1;
+            if self.take(edge as usize) {
+                return Some(edge as usize);
+            }
+        }
     }
 }
 
