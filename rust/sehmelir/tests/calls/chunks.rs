@@ -262,6 +262,7 @@ fn histories() {
     tallies.find.assert_just(&[0, 14, 16]);
     tallies.remove.assert_just(&[0, 14, 16]);
     tallies.compact.assert_just(&[0, 14]);
+    tallies.replace.assert_just(&[0, 4, 5, 9, 18]);
     assert!(tallies.compacting_adds > 100);
 }
 
