@@ -155,7 +155,7 @@ fn drawn(page: &Page, shown: Shown, tolerance: i64) -> (String, usize) {
         return (whole + "</svg>\n", lines);
     };
     let (part, more) = panel::begin(place, view, shown, tolerance);
-    let told = format!("the marked part, {} times as large", view.times(all));
+    let told = title::of_part(view.times(all));
     let text = [
         whole,
         panel::mark(all, view.frame),

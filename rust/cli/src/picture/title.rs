@@ -55,6 +55,14 @@ fn span(bodies: &[bool]) -> String {
     format!("{} the first, {} the last", name(first), name(last))
 }
 
+/// What is said of the part that is shown so many times as large.
+pub fn of_part(times: i64) -> String {
+    match times {
+        ..2 => "the marked part, enlarged".to_string(),
+        times => format!("the marked part, {times} times as large"),
+    }
+}
+
 /// What is said where lines stand for more edges than the page can show.
 pub fn of_shortcuts(shown: Shown, tolerance: i64, lines: usize) -> String {
     format!(
