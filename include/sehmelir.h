@@ -10,20 +10,34 @@
  * 268,435,456, and there are 0 to 4,096 vertices. The GRADE, 1 to 8, says how
  * finely arcs are drawn; 8 is the finest.
  *
+ * A KERB is a line of one width, lent as 32-bit numbers, two for each vertex:
+ * x, y. Beside them stand its STYLE: radius, from 0 to 268,435,456; join, 0 for
+ * bevelled and 1 for round corners; closed, 1 if it goes back to its first
+ * point, else 0. Vertices that follow one another and are equal count as one.
+ *
  * EDGES are written as 32-bit numbers, four for each edge: x and y of its
  * start, x and y of its end.
  *
- * An OUTLINE is a path, its grade and its edges kept as bytes. It has
- * 24 + 16 * vertices + 16 * edges of them, made of 32-bit little-endian words:
+ * An OUTLINE is a path or a kerb, its grade and its edges kept as bytes. Of a
+ * path it has 24 + 16 * vertices + 16 * edges of them, made of 32-bit
+ * little-endian words:
  *
  *     1, 0, grade, vertices, edges                      edition 1, kind 0
  *     for each vertex: x, y, radius, edges drawn on reaching it
  *     edges drawn at the end
  *     for each edge: x and y of its start, x and y of its end
  *
- * It is SOUND if it equals, byte for byte, what its own vertices and grade
- * give. A STORE is memory that begins with an outline; what stands after the
- * outline is neither looked at nor, unless the outline grows over it, changed.
+ * Of a kerb it has 44 + 8 * vertices + 16 * edges bytes:
+ *
+ *     1, 1, grade, vertices, edges, radius, join, closed  edition 1, kind 1
+ *     for each vertex: x, y
+ *     edges of the lines, of the corners, of the ends
+ *     for each edge, in that order: x and y of its start, x and y of its end
+ *
+ * It is SOUND if it equals, byte for byte, what its own vertices and grade, and
+ * style, give. A STORE is memory that begins with an outline; what stands after
+ * the outline is neither looked at nor, unless the outline grows over it,
+ * changed.
  *
  * The OLDEST CHUNKS keep a vertex as three 32-bit floats: x, y and full width,
  * in millimetres. A coordinate is a whole number within the limits above, a
@@ -53,11 +67,12 @@
  *   chunk leave in it is said with each.
  *
  * The calls allocate nothing, keep nothing between calls, and may run in
- * several threads at once. On the stack sehmelir_draw takes up to 528 KiB,
- * sehmelir_keep, sehmelir_read, sehmelir_replace, sehmelir_reach and
- * sehmelir_chunk_add up to 256 KiB, and sehmelir_chunk_find, sehmelir_chunk_remove
- * and sehmelir_chunk_compact up to 32 KiB, so a thread that calls them needs more
- * than that; the others take below 1 KiB.
+ * several threads at once. On the stack sehmelir_draw and sehmelir_draw_kerb
+ * take up to 528 KiB, sehmelir_keep, sehmelir_keep_kerb, sehmelir_read,
+ * sehmelir_replace, sehmelir_reach and sehmelir_chunk_add up to 256 KiB, and
+ * sehmelir_chunk_find, sehmelir_chunk_remove and sehmelir_chunk_compact up to
+ * 32 KiB, so a thread that calls them needs more than that; the others take
+ * below 1 KiB.
  *
  * It is proved of each call that its reply and all lent memory afterwards are
  * what the rules give. The proof rests on memory being lent as said above.
@@ -90,18 +105,28 @@ extern "C" {
 #define SEHMELIR_OUTLINE_BYTES(vertices, edges)                                \
     ((size_t)24 + (size_t)16 * (vertices) + (size_t)16 * (edges))
 
+/* The bytes of a kept kerb with so many vertices and edges. */
+#define SEHMELIR_KERB_BYTES(vertices, edges)                                   \
+    ((size_t)44 + (size_t)8 * (vertices) + (size_t)16 * (edges))
+
+/* The joins of a kerb. */
+#define SEHMELIR_BEVEL 0
+#define SEHMELIR_ROUND 1
+
 /* The replies, by number. Each call below says in which order it tests them. */
 enum sehmelir_reply_number {
     SEHMELIR_DONE = 0,          /* done */
-    SEHMELIR_UNEVEN = 1,        /* the numbers lent are no multiple of three */
+    SEHMELIR_UNEVEN = 1,        /* the numbers lent are no whole vertices */
     SEHMELIR_TOO_MANY = 2,      /* above 4,096 vertices */
     SEHMELIR_GRADE = 3,         /* the grade is not 1 to 8 */
     SEHMELIR_OUTSIDE = 4,       /* a vertex lies outside the limits */
     SEHMELIR_NO_ROOM = 5,       /* the result is longer than the room lent */
     SEHMELIR_NOT_OUTLINE = 6,   /* the store is too short, or not of edition 1 */
-    SEHMELIR_KIND = 7,          /* the outline's kind is not 0 */
+    SEHMELIR_KIND = 7,          /* the outline's kind is neither 0 nor 1 */
     SEHMELIR_NOT_SOUND = 8,     /* the outline is not sound */
     SEHMELIR_NO_VERTEX = 9,     /* the outline has no vertex of that index */
+    SEHMELIR_STYLE_WORD = 11,   /* radius, join or closed is out of range */
+    SEHMELIR_OTHER_KIND = 12,   /* the outline is not of the kind asked for */
     SEHMELIR_NOT_TAKEN = 13,    /* a number of the oldest chunks is not taken */
     SEHMELIR_DAMAGED = 14,      /* the chunk's table is damaged */
     SEHMELIR_KEY_THERE = 15,    /* the key is in the chunk already */
@@ -113,8 +138,20 @@ enum sehmelir_reply_number {
 /* What a call answers. */
 struct sehmelir_reply {
     uint32_t reply;  /* one of enum sehmelir_reply_number */
-    uint32_t grade;  /* after sehmelir_read's reply 0 the grade, else 0 */
+    uint32_t grade;  /* 0 */
     uint64_t number; /* what it means stands with each reply, below */
+};
+
+/* What sehmelir_read answers. After a refusal all but the first and the third
+ * are 0. */
+struct sehmelir_path {
+    uint32_t reply;  /* one of enum sehmelir_reply_number */
+    uint32_t grade;  /* the grade */
+    uint64_t number; /* what it means stands with each reply, below */
+    uint32_t kind;   /* 0, a path; 1, a kerb */
+    uint32_t radius; /* of a kerb; 0 of a path, as the two below */
+    uint32_t join;   /* SEHMELIR_BEVEL or SEHMELIR_ROUND */
+    uint32_t closed; /* 1 or 0 */
 };
 
 /*
@@ -174,17 +211,90 @@ struct sehmelir_reply sehmelir_keep(const int32_t *path, size_t path_len,
                                     size_t out_len);
 
 /*
- * Reads the path of a sound outline into `out`, and its grade. An outline
- * without edges, as they were kept once, still reads.
+ * Draws the edges of a kerb into `out`: two for each line between vertices,
+ * then those of the corners, then the two flat ends of an open kerb.
+ *
+ * The first of these that applies is the reply:
+ *
+ *     1 SEHMELIR_UNEVEN       points_len is odd
+ *                             number: points_len
+ *     3 SEHMELIR_GRADE        the grade is not 1 to 8
+ *                             number: the grade
+ *    11 SEHMELIR_STYLE_WORD   radius is above 268,435,456, or join or closed is
+ *                             neither 0 nor 1
+ *                             number: 5, 6 or 7 for the first such
+ *     2 SEHMELIR_TOO_MANY     there are above 4,096 vertices
+ *                             number: the vertices
+ *     4 SEHMELIR_OUTSIDE      a vertex lies outside the limits
+ *                             number: the index of the first such vertex
+ *    18 SEHMELIR_WITHOUT_EDGES
+ *                             there is a vertex, and no edge: so it is where
+ *                             the radius is 0 or 1, or all vertices are equal
+ *                             number: the vertices
+ *     5 SEHMELIR_NO_ROOM      out_len is below four times the edges
+ *                             number: the edges that there are
+ *     0 SEHMELIR_DONE         the edges stand in `out`, four numbers each
+ *                             number: the edges
+ *
+ * Takes up to 528 KiB of stack.
+ */
+struct sehmelir_reply sehmelir_draw_kerb(const int32_t *points,
+                                         size_t points_len, uint32_t grade,
+                                         uint32_t radius, uint32_t join,
+                                         uint32_t closed, int32_t *out,
+                                         size_t out_len);
+
+/*
+ * Keeps a kerb, its grade, its style and its edges as an outline in `out`.
+ *
+ * The first of these that applies is the reply:
+ *
+ *     1 SEHMELIR_UNEVEN       points_len is odd
+ *                             number: points_len
+ *     3 SEHMELIR_GRADE        the grade is not 1 to 8
+ *                             number: the grade
+ *    11 SEHMELIR_STYLE_WORD   radius is above 268,435,456, or join or closed is
+ *                             neither 0 nor 1
+ *                             number: 5, 6 or 7 for the first such
+ *     2 SEHMELIR_TOO_MANY     there are above 4,096 vertices
+ *                             number: the vertices
+ *     4 SEHMELIR_OUTSIDE      a vertex lies outside the limits
+ *                             number: the index of the first such vertex
+ *    18 SEHMELIR_WITHOUT_EDGES
+ *                             there is a vertex, and no edge: so it is where
+ *                             the radius is 0 or 1, or all vertices are equal
+ *                             number: the vertices
+ *     5 SEHMELIR_NO_ROOM      out_len is below the outline's bytes
+ *                             number: the bytes needed
+ *     0 SEHMELIR_DONE         the outline stands in `out`
+ *                             number: its bytes
+ *
+ * Takes up to 256 KiB of stack.
+ */
+struct sehmelir_reply sehmelir_keep_kerb(const int32_t *points,
+                                         size_t points_len, uint32_t grade,
+                                         uint32_t radius, uint32_t join,
+                                         uint32_t closed, uint8_t *out,
+                                         size_t out_len);
+
+/*
+ * Reads the vertices of a sound outline into `out`: three numbers each of a
+ * path, x, y and radius, and two of a kerb, x and y. An outline without edges,
+ * as they were kept once, still reads.
  *
  * The first of these that applies is the reply:
  *
  *     6 SEHMELIR_NOT_OUTLINE  store_len is below 24, or the edition is not 1
  *                             number: 0
- *     7 SEHMELIR_KIND         the kind is not 0
+ *     7 SEHMELIR_KIND         the kind is neither 0 nor 1
  *                             number: the kind
+ *     6 SEHMELIR_NOT_OUTLINE  the kind is 1 and store_len is below 44
+ *                             number: 0
  *     3 SEHMELIR_GRADE        the grade in the store is not 1 to 8
  *                             number: that grade
+ *    11 SEHMELIR_STYLE_WORD   of a kerb, radius, join or closed is out of range
+ *                             number: the place of the first such word, 5, 6
+ *                             or 7
  *     2 SEHMELIR_TOO_MANY     the store says that it has above 4,096 vertices
  *                             number: the vertices
  *     6 SEHMELIR_NOT_OUTLINE  store_len is below the bytes that the vertices
@@ -193,18 +303,20 @@ struct sehmelir_reply sehmelir_keep(const int32_t *path, size_t path_len,
  *     4 SEHMELIR_OUTSIDE      a vertex in the store lies outside the limits
  *                             number: the index of the first such vertex
  *     8 SEHMELIR_NOT_SOUND    the outline is not what its own vertices and
- *                             grade give
+ *                             grade, and style, give
  *                             number: the index of the first byte that differs
- *     5 SEHMELIR_NO_ROOM      out_len is below three times the vertices
+ *     5 SEHMELIR_NO_ROOM      out_len is below three times the vertices, of a
+ *                             kerb twice
  *                             number: the vertices
- *     0 SEHMELIR_DONE         the path stands in `out`, three numbers a vertex,
- *                             and the reply holds the grade
+ *     0 SEHMELIR_DONE         the vertices stand in `out`, and beside the reply
+ *                             stand the grade, the kind and, of a kerb, its
+ *                             style
  *                             number: the vertices
  *
  * Takes up to 256 KiB of stack.
  */
-struct sehmelir_reply sehmelir_read(const uint8_t *store, size_t store_len,
-                                    int32_t *out, size_t out_len);
+struct sehmelir_path sehmelir_read(const uint8_t *store, size_t store_len,
+                                   int32_t *out, size_t out_len);
 
 /*
  * Replaces the vertex of the given index, counted from 0, in a sound outline.
@@ -219,10 +331,15 @@ struct sehmelir_reply sehmelir_read(const uint8_t *store, size_t store_len,
  *
  *     6 SEHMELIR_NOT_OUTLINE  store_len is below 24, or the edition is not 1
  *                             number: 0
- *     7 SEHMELIR_KIND         the kind is not 0
+ *     7 SEHMELIR_KIND         the kind is neither 0 nor 1
  *                             number: the kind
+ *     6 SEHMELIR_NOT_OUTLINE  the kind is 1 and store_len is below 44
+ *                             number: 0
  *     3 SEHMELIR_GRADE        the grade in the store is not 1 to 8
  *                             number: that grade
+ *    11 SEHMELIR_STYLE_WORD   of a kerb, radius, join or closed is out of range
+ *                             number: the place of the first such word, 5, 6
+ *                             or 7
  *     2 SEHMELIR_TOO_MANY     the store says that it has above 4,096 vertices
  *                             number: the vertices
  *     6 SEHMELIR_NOT_OUTLINE  store_len is below the bytes that the vertices
@@ -231,8 +348,10 @@ struct sehmelir_reply sehmelir_read(const uint8_t *store, size_t store_len,
  *     4 SEHMELIR_OUTSIDE      a vertex in the store lies outside the limits
  *                             number: the index of the first such vertex
  *     8 SEHMELIR_NOT_SOUND    the outline is not what its own vertices and
- *                             grade give
+ *                             grade, and style, give
  *                             number: the index of the first byte that differs
+ *    12 SEHMELIR_OTHER_KIND   the outline is of a kerb
+ *                             number: its kind, 1
  *     9 SEHMELIR_NO_VERTEX    the index is not below the vertices
  *                             number: the index
  *     4 SEHMELIR_OUTSIDE      the new vertex lies outside the limits
@@ -267,10 +386,15 @@ struct sehmelir_reply sehmelir_replace(uint8_t *store, size_t store_len,
  *
  *     6 SEHMELIR_NOT_OUTLINE  store_len is below 24, or the edition is not 1
  *                             number: 0
- *     7 SEHMELIR_KIND         the kind is not 0
+ *     7 SEHMELIR_KIND         the kind is neither 0 nor 1
  *                             number: the kind
+ *     6 SEHMELIR_NOT_OUTLINE  the kind is 1 and store_len is below 44
+ *                             number: 0
  *     3 SEHMELIR_GRADE        the grade in the store is not 1 to 8
  *                             number: that grade
+ *    11 SEHMELIR_STYLE_WORD   of a kerb, radius, join or closed is out of range
+ *                             number: the place of the first such word, 5, 6
+ *                             or 7
  *     2 SEHMELIR_TOO_MANY     the store says that it has above 4,096 vertices
  *                             number: the vertices
  *     6 SEHMELIR_NOT_OUTLINE  store_len is below the bytes that the vertices
@@ -279,8 +403,10 @@ struct sehmelir_reply sehmelir_replace(uint8_t *store, size_t store_len,
  *     4 SEHMELIR_OUTSIDE      a vertex in the store lies outside the limits
  *                             number: the index of the first such vertex
  *     8 SEHMELIR_NOT_SOUND    the outline is not what its own vertices and
- *                             grade give
+ *                             grade, and style, give
  *                             number: the index of the first byte that differs
+ *    12 SEHMELIR_OTHER_KIND   the outline is of a kerb
+ *                             number: its kind, 1
  *     9 SEHMELIR_NO_VERTEX    the index is not below the vertices
  *                             number: the index
  *     0 SEHMELIR_DONE         number: j, or the vertices where there is none

@@ -1,7 +1,7 @@
 /*
  * The calls from C, on one path: document 01's example 5, and how far a vertex
- * reaches on a few more; then the oldest chunks, and many outlines in one chunk.
- * One line for each check; the exit status is 1 if one of them fails.
+ * reaches on a few more; then kerbs, the oldest chunks, and many outlines in one
+ * chunk. One line for each check; the exit status is 1 if one of them fails.
  */
 #include "sehmelir.h"
 
@@ -64,6 +64,16 @@ static void check_reply(struct sehmelir_reply given, uint32_t reply,
         printf("  reply %lu number %llu grade %lu\n",
                (unsigned long)given.reply, (unsigned long long)given.number,
                (unsigned long)given.grade);
+}
+
+/* The same of a reading, which tells of a path no style. */
+static void check_path(struct sehmelir_path given, uint32_t reply,
+                       uint64_t number, uint32_t grade, const char *what) {
+    struct sehmelir_reply front = {given.reply, given.grade, given.number};
+    check_reply(front, reply, number, grade, what);
+    if (given.kind != 0 || given.radius != 0 || given.join != 0 ||
+        given.closed != 0)
+        check(false, "  with kind 0 and no style");
 }
 
 /* Something in every place, different from its neighbours. */
@@ -163,16 +173,16 @@ static void check_read(void) {
     fill(&out, sizeof out);
     expected = out;
 
-    check_reply(sehmelir_read(store.lent, OUTLINE, out.lent, PATH - 1),
+    check_path(sehmelir_read(store.lent, OUTLINE, out.lent, PATH - 1),
                 SEHMELIR_NO_ROOM, 2, 0, "read is refused one number short");
-    check_reply(sehmelir_read(store.lent, OUTLINE - 1, out.lent, PATH),
+    check_path(sehmelir_read(store.lent, OUTLINE - 1, out.lent, PATH),
                 SEHMELIR_NOT_OUTLINE, 0, 0, "read of a store one byte short");
-    check_reply(sehmelir_read(store.lent, 0, out.lent, PATH),
+    check_path(sehmelir_read(store.lent, 0, out.lent, PATH),
                 SEHMELIR_NOT_OUTLINE, 0, 0, "read of an empty store");
     check(memcmp(&out, &expected, sizeof out) == 0,
           "read's refusals change nothing");
 
-    check_reply(
+    check_path(
         sehmelir_read(store.lent, OUTLINE + SPARE, out.lent, NUMBERS + SPARE),
         SEHMELIR_DONE, 2, 1, "read gives two vertices and grade 1");
     memcpy(expected.lent, path, sizeof path);
@@ -218,8 +228,8 @@ static void check_replace(void) {
         put_word(expected.lent + 4 * index, points[index]);
     }
     int32_t still[PATH];
-    check_reply(sehmelir_read(store.lent, POINTS, still, PATH), SEHMELIR_DONE,
-                2, 1, "an outline without edges still reads");
+    check_path(sehmelir_read(store.lent, POINTS, still, PATH), SEHMELIR_DONE,
+               2, 1, "an outline without edges still reads");
     check(memcmp(still, thin, sizeof thin) == 0, "  and gives its path");
 
     static const int32_t narrow_end[PATH] = {0, 0, 5, 20, 0, 1};
@@ -290,8 +300,8 @@ static void check_damaged(int place, int32_t word, uint32_t reply,
     fill(&out, sizeof out);
     same = out;
 
-    check_reply(sehmelir_read(store.lent, OUTLINE, out.lent, PATH), reply,
-                number, 0, what);
+    check_path(sehmelir_read(store.lent, OUTLINE, out.lent, PATH), reply,
+               number, 0, what);
     check_reply(sehmelir_replace(store.lent, OUTLINE, 0, 0, 0, 1), reply,
                 number, 0, "  and replace refuses it alike");
     check_reply(sehmelir_reach(store.lent, OUTLINE, 9), reply, number, 0,
@@ -303,7 +313,7 @@ static void check_damaged(int place, int32_t word, uint32_t reply,
 
 static void check_damage(void) {
     check_damaged(0, 2, SEHMELIR_NOT_OUTLINE, 0, "read of edition 2");
-    check_damaged(1, 1, SEHMELIR_KIND, 1, "read of kind 1");
+    check_damaged(1, 2, SEHMELIR_KIND, 2, "read of kind 2");
     check_damaged(2, 9, SEHMELIR_GRADE, 9, "read of grade 9");
     check_damaged(3, 4097, SEHMELIR_TOO_MANY, 4097, "read of 4,097 vertices");
     check_damaged(4, 11, SEHMELIR_NOT_OUTLINE, 0, "read of one edge too many");
@@ -313,6 +323,87 @@ static void check_damage(void) {
     check_damaged(12, 7, SEHMELIR_NOT_SOUND, 48, "read of a wrong edge count");
     check_damaged(53, 5 + 256, SEHMELIR_NOT_SOUND, 213,
                   "read of a wrong last edge");
+}
+
+/* A kerb of two points, its edges and its words before them. */
+static const int32_t line[4] = {0, 0, 20, 0};
+
+static const int32_t sides[16] = {20, 5, 0, 5,  0,  -5, 20, -5,
+                                  0,  5, 0, -5, 20, -5, 20, 5};
+
+static const int32_t kerb_words[15] = {1, 1, 3,  2, 4, 5, 1, 0,
+                                       0, 0, 20, 0, 2, 0, 2};
+
+static void check_draw_kerb(void) {
+    struct numbers out, expected;
+    fill(&out, sizeof out);
+    expected = out;
+    check_reply(sehmelir_draw_kerb(line, 3, 3, 5, 1, 0, out.lent, 16),
+                SEHMELIR_UNEVEN, 3, 0, "a kerb of three numbers");
+    check_reply(sehmelir_draw_kerb(line, 4, 9, 268435457, 2, 2, out.lent, 16),
+                SEHMELIR_GRADE, 9, 0, "a kerb at grade 9");
+    check_reply(sehmelir_draw_kerb(line, 4, 3, 268435457, 2, 2, out.lent, 16),
+                SEHMELIR_STYLE_WORD, 5, 0, "a kerb's radius past its range");
+    check_reply(sehmelir_draw_kerb(line, 4, 3, 5, 2, 2, out.lent, 16),
+                SEHMELIR_STYLE_WORD, 6, 0, "a kerb's join past its range");
+    check_reply(sehmelir_draw_kerb(line, 4, 3, 5, 1, 2, out.lent, 16),
+                SEHMELIR_STYLE_WORD, 7, 0, "a kerb's closed past its range");
+    check_reply(sehmelir_draw_kerb(line, 4, 3, 1, 1, 1, out.lent, 16),
+                SEHMELIR_WITHOUT_EDGES, 2, 0, "a kerb without edges");
+    check_reply(sehmelir_draw_kerb(line, 4, 3, 5, 1, 0, out.lent, 15),
+                SEHMELIR_NO_ROOM, 4, 0, "a kerb one number short");
+    check(memcmp(&out, &expected, sizeof out) == 0,
+          "these refusals change nothing");
+    check_reply(sehmelir_draw_kerb(line, 4, 3, 5, SEHMELIR_ROUND, 0, out.lent,
+                                   NUMBERS + SPARE),
+                SEHMELIR_DONE, 4, 0, "a kerb of four edges");
+    memcpy(expected.lent, sides, sizeof sides);
+    check(memcmp(&out, &expected, sizeof out) == 0,
+          "it writes the edges and nothing else");
+}
+
+static void check_keep_kerb(void) {
+    struct bytes store, expected;
+    struct numbers out, same;
+    fill(&store, sizeof store);
+    expected = store;
+    size_t bytes = SEHMELIR_KERB_BYTES(2, 4);
+    check(bytes == 124, "the header tells a kerb's bytes");
+    check_reply(sehmelir_keep_kerb(line, 4, 3, 5, 1, 0, store.lent, 123),
+                SEHMELIR_NO_ROOM, 124, 0, "a kept kerb one byte short");
+    check(memcmp(&store, &expected, sizeof store) == 0,
+          "that refusal changes nothing");
+    check_reply(sehmelir_keep_kerb(line, 4, 3, 5, 1, 0, store.lent,
+                                   OUTLINE + SPARE),
+                SEHMELIR_DONE, 124, 0, "a kept kerb of 124 bytes");
+    for (int index = 0; index < 15; index++)
+        put_word(expected.lent + 4 * index, kerb_words[index]);
+    for (int index = 0; index < 16; index++)
+        put_word(expected.lent + 60 + 4 * index, sides[index]);
+    check(memcmp(&store, &expected, sizeof store) == 0,
+          "it writes the outline and nothing else");
+
+    fill(&out, sizeof out);
+    same = out;
+    struct sehmelir_path read = sehmelir_read(store.lent, 124, out.lent, 3);
+    check(read.reply == SEHMELIR_NO_ROOM && read.number == 2 &&
+              read.grade == 0 && read.kind == 0 && read.radius == 0 &&
+              read.join == 0 && read.closed == 0,
+          "a kerb's reading one number short");
+    read = sehmelir_read(store.lent, OUTLINE + SPARE, out.lent, 5);
+    check(read.reply == SEHMELIR_DONE && read.number == 2 &&
+              read.grade == 3 && read.kind == 1 && read.radius == 5 &&
+              read.join == SEHMELIR_ROUND && read.closed == 0,
+          "a kerb's reading tells its style");
+    memcpy(same.lent, line, sizeof line);
+    check(memcmp(&out, &same, sizeof out) == 0,
+          "it writes the points and nothing else");
+    check_reply(sehmelir_replace(store.lent, 124, 9, 0, 0, 5),
+                SEHMELIR_OTHER_KIND, 1, 0, "a kerb's vertex is not replaced");
+    check_reply(sehmelir_reach(store.lent, 124, 9), SEHMELIR_OTHER_KIND, 1, 0,
+                "and does not reach");
+    check(memcmp(&store, &expected, sizeof store) == 0,
+          "the store is as it was");
 }
 
 static void check_taken(struct sehmelir_taken given, uint32_t reason,
@@ -539,6 +630,8 @@ int main(void) {
     check_replace();
     check_reach();
     check_damage();
+    check_draw_kerb();
+    check_keep_kerb();
     check(sizeof(struct sehmelir_taken) == 8 &&
               offsetof(struct sehmelir_taken, whole) == 4,
           "what a float is taken for is two 32-bit numbers");

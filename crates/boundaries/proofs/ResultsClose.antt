@@ -12,27 +12,35 @@ use lib.Seq.{take-at, drop-at}
 use Rattle.runs.specs.Runs.{spread}
 use Rattle.runs.proofs.Laws.{spread-append}
 use Rattle.turning.specs.Edges.{edgeNumbers}
+use Rattle.turning.specs.Bounds.{AllReach}
 use Rattle.turning.specs.declared.Edge.{Edge}
 use Rattle.turning.proofs.Most.{edges-four}
 use Rattle.contacts.specs.Limits.{firstOutside}
 use Rattle.contacts.specs.declared.Vertex.{Vertex}
-use Rattle.contacts.proofs.Allowed.{outside-most}
-use Rattle.paths.specs.Paths.{pathOf, bodiesOf, edgesOf, Within}
+use Rattle.contacts.proofs.Allowed.{outside-most, inside-first, inside-of}
+use Rattle.kerb.specs.Bounds.{KerbPoints}
+use Rattle.kerb.specs.declared.Style.{Style}
+use Rattle.kerb.proofs.KerbReach.{kerb-reach}
+use Rattle.paths.specs.Paths.{pathOf, edgesOf, Within}
 use Rattle.paths.proofs.Reach.{edges-reach}
 use Rattle.outline.specs.Layout.{edgeBytes}
-use Rattle.outline.specs.Outlines.{headerOf, tableOf, bodyWords, wordsWith, outlineWords, outlineBytes}
-use Rattle.outline.specs.Stores.{gradeIn, lengthIn, pathIn}
+use Rattle.outline.specs.Outlines.{headerOf, bodyWords, tableFor, edgesFor, partsWords, outlineWords, outlineBytes}
+use Rattle.outline.specs.Theorems.{AllRadius, Formed}
+use Rattle.outline.specs.declared.Form.{Form}
+use Rattle.outline.specs.declared.Form.the-variants.{Stroke, Kerb}
+use Rattle.outline.specs.Stores.{formIn, gradeIn, lengthIn, pathIn}
 use Rattle.outline.proofs.ReadBack.{numbers-length, length-back, header-word}
 use Rattle.replies.specs.Replies.{Reply, triplesRow, gradeRow, countRow, outsideRow, emptyRow, roomRow, pathRows, written}
 use Rattle.replies.proofs.Rows.{NoneHold, first-none, none-last}
 use Rattle.drawing.specs.Drawing.{drawReply, drawOut}
 use Rattle.keeping.proofs.PathKept.{keep-within, keep-out}
 use Rattle.theorems.proofs.ThroughCalls.{sound-begins}
-use Rattle.closing.specs.Closing.{strayOf}
+use Rattle.closing.specs.Closing.{Balanced, strayOf}
 use Rattle.closing.proofs.PathsClose.{boundary-closes}
+use Rattle.closing.proofs.KerbsClose.{kerb-closes}
 use Rattle.words.specs.Words.{fourBytes, bytesOf, wordsIn, wordAt}
 use Rattle.words.proofs.Bytes.{bytes-length}
-use Rattle.boundaries.specs.Results.{edgesFrom, numbersOf, storedEdges, DrawnCloses, StoredCloses, SoundCloses, KeptCloses}
+use Rattle.boundaries.specs.Results.{edgesFrom, numbersOf, storedEdges, strayIn, DrawnCloses, StoredCloses, SoundCloses, KeptCloses}
 use Rattle.boundaries.proofs.EdgesAgain.{edges-again, bytes-again}
 
 -- ---- draw
@@ -70,47 +78,67 @@ drawn-closes path g m out e s =
 
 -- ---- stores
 
+-- the points of a kerb within the limits
+kerb-points : (y : Style) (vs : List Vertex) → firstOutside vs ≡ length vs → AllRadius (y .radius) vs → KerbPoints y vs
+unfolding KerbPoints
+kerb-points y [] h r = tt
+kerb-points y (v ∷ vs) h r = let a = inside-first v vs h in (record { inside = inside-of (a .0); radius = r .0 }, kerb-points y vs (a .1) (r .1))
+
+-- what either kind has: its edges can be read back, and close
+form-reach : (f : Form) (g : ℕ) (vs : List Vertex) → Formed f g vs → AllReach (edgesFor f g vs)
+form-reach Stroke g vs w = edges-reach g vs (w .0 .inside)
+form-reach (Kerb y) g vs w = kerb-reach g y vs (w .1 .0) (kerb-points y vs (w .0 .inside) (w .1 .1))
+
+form-closes : (f : Form) (g : ℕ) (vs : List Vertex) → Formed f g vs → strayIn f vs ≡ false → Balanced (edgesFor f g vs)
+unfolding strayIn
+form-closes Stroke g vs w e = boundary-closes g vs (w .0 .inside) e
+form-closes (Kerb y) g vs w e = kerb-closes g y vs
+
 -- a store that begins with an outline: before its edges stand header and table
-module _ (g : ℕ) (vs : List Vertex) (rest : List ℕ) (w : Within g vs) where
+module _ (f : Form) (g : ℕ) (vs : List Vertex) (rest : List ℕ) (w : Formed f g vs) where
   abbrev store : List ℕ
-  store = outlineBytes g vs ++ rest
+  store = outlineBytes f g vs ++ rest
+
+  abbrev due : List Edge
+  due = edgesFor f g vs
 
   front : List ℕ
-  front = headerOf g (length vs) (length (edgesOf g vs)) ++ tableOf vs (bodiesOf g vs)
+  front = headerOf f g (length vs) (length due) ++ tableFor f g vs
 
   abbrev body : List ℕ
-  body = bytesOf (bodyWords (edgesOf g vs))
+  body = bytesOf (bodyWords due)
 
-  bytes-split : outlineBytes g vs ≡ bytesOf front ++ body
-  unfolding front outlineBytes outlineWords wordsWith edgesOf bytesOf
+  bytes-split : outlineBytes f g vs ≡ bytesOf front ++ body
+  unfolding front outlineBytes outlineWords partsWords bytesOf
   bytes-split =
-      ap (spread fourBytes) (sym (append-assoc (headerOf g (length vs) (length (edgesOf g vs))) (tableOf vs (bodiesOf g vs)) (bodyWords (edgesOf g vs))))
-      ∙ spread-append fourBytes front (bodyWords (edgesOf g vs))
+      ap (spread fourBytes) (sym (append-assoc (headerOf f g (length vs) (length due)) (tableFor f g vs) (bodyWords due)))
+      ∙ spread-append fourBytes front (bodyWords due)
 
-  edge-count : wordAt store 4 ≡ length (edgesOf g vs)
-  unfolding outlineWords wordsWith headerOf edgesOf
-  edge-count = header-word g vs rest w 4
+  edge-count : wordAt store 4 ≡ length due
+  unfolding outlineWords partsWords headerOf
+  edge-count = header-word f g vs rest w 4
 
   body-long : length body ≡ edgeBytes * wordAt store 4
-  body-long = omega (arith, bytes-length (bodyWords (edgesOf g vs)), numbers-length (edgesOf g vs), edge-count)
+  body-long = omega (arith, bytes-length (bodyWords due), numbers-length due, edge-count)
 
   front-long : length (bytesOf front) ≡ lengthIn store - edgeBytes * wordAt store 4
-  front-long = omega (arith, body-long, length-back g vs rest w, ap length bytes-split, length-append (bytesOf front) body)
+  front-long = omega (arith, body-long, length-back f g vs rest w, ap length bytes-split, length-append (bytesOf front) body)
 
-  edges-stored : storedEdges store ≡ edgesOf g vs
+  edges-stored : storedEdges store ≡ due
   unfolding storedEdges
   edges-stored =
       let split : store ≡ bytesOf front ++ (body ++ rest) = ap (λ (l : List ℕ). l ++ rest) bytes-split ∙ append-assoc (bytesOf front) body rest in
       let n : ℕ = edgeBytes * wordAt store 4 in
       ap (λ (l : List ℕ). edgesFrom (numbersOf (wordsIn (take n l)))) (ap (drop (lengthIn store - n)) split ∙ drop-at (bytesOf front) (body ++ rest) _ front-long)
       ∙ ap (λ (l : List ℕ). edgesFrom (numbersOf (wordsIn l))) (take-at body rest n body-long)
-      ∙ bytes-again (edgesOf g vs) (edges-reach g vs (w .inside))
+      ∙ bytes-again due (form-reach f g vs w)
 
-  stored-closes : strayOf vs ≡ false → StoredCloses store
-  stored-closes f = rw (edges-stored, edge-count) (refl, boundary-closes g vs (w .inside) f)
+  stored-closes : strayIn f vs ≡ false → StoredCloses store
+  stored-closes e = rw (edges-stored, edge-count) (refl, form-closes f g vs w e)
 
 pub sound-closes : SoundCloses
-sound-closes s w e f = rw (sound-begins s e) (stored-closes (gradeIn s) (pathIn s) (drop (lengthIn s) s) w f)
+sound-closes s w e f = rw (sound-begins s e) (stored-closes (formIn s) (gradeIn s) (pathIn s) (drop (lengthIn s) s) w f)
 
 pub kept-closes : KeptCloses
-kept-closes path g out h f = rw (keep-out path g out h) (stored-closes g (pathOf path) (drop (length (outlineBytes g (pathOf path))) out) (keep-within path g (length out) h) f)
+unfolding strayIn
+kept-closes path g out h f = rw (keep-out path g out h) (stored-closes Stroke g (pathOf path) (drop (length (outlineBytes Stroke g (pathOf path))) out) (keep-within path g (length out) h, tt) f)

@@ -1,6 +1,6 @@
 -- Document 02, request 12, for whoever fills a boundary: what draw wrote, and what a sound outline holds, closes when it is read as edges.
 use mathlib.Core.Path.{_≡_}
-use mathlib.Core.Bool.{true, false}
+use mathlib.Core.Bool.{Bool, true, false}
 use mathlib.Core.List.{List, [], _∷_}
 use Prim.Native.Nat.{ℕ, _-_, _*_}
 use lib.IntN.{ℤ}
@@ -9,7 +9,11 @@ use Rattle.turning.specs.declared.Edge.{Edge}
 use Rattle.paths.specs.Paths.{pathOf, Within}
 use Rattle.words.specs.Words.{numberOf, wordsIn, wordAt}
 use Rattle.outline.specs.Layout.{edgeBytes}
-use Rattle.outline.specs.Stores.{gradeIn, lengthIn, pathIn, soundOf}
+use Rattle.contacts.specs.declared.Vertex.{Vertex}
+use Rattle.outline.specs.Theorems.{Formed}
+use Rattle.outline.specs.declared.Form.{Form}
+use Rattle.outline.specs.declared.Form.the-variants.{Stroke, Kerb}
+use Rattle.outline.specs.Stores.{formIn, gradeIn, lengthIn, pathIn, soundOf}
 use Rattle.drawing.specs.Drawing.{drawReply, drawOut}
 use Rattle.keeping.specs.Keeping.{keepReply, keepOut}
 use Rattle.closing.specs.Closing.{Balanced, strayOf}
@@ -39,12 +43,17 @@ storedEdges store =
     let n : ℕ = edgeBytes * wordAt store 4 in
     edgesFrom (numbersOf (wordsIn (take n (drop (lengthIn store - n) store))))
 
--- In a sound store they are as many as its header says and close, with the same exception; and so it is in what keep wrote.
+-- The exception is a stroke's alone.
+unfoldable pub strayIn : Form → List Vertex → Bool
+strayIn Stroke vs = strayOf vs
+strayIn (Kerb y) vs = false
+
+-- In a sound store of either kind they are as many as its header says and close, with the same exception; and so it is in what keep wrote.
 abbrev pub StoredCloses : List ℕ → Type 0
 StoredCloses s = (length (storedEdges s) ≡ wordAt s 4) × Balanced (storedEdges s)
 
 abbrev pub SoundCloses : Type 0
-SoundCloses = (s : List ℕ) → Within (gradeIn s) (pathIn s) → soundOf s ≡ true → strayOf (pathIn s) ≡ false → StoredCloses s
+SoundCloses = (s : List ℕ) → Formed (formIn s) (gradeIn s) (pathIn s) → soundOf s ≡ true → strayIn (formIn s) (pathIn s) ≡ false → StoredCloses s
 
 abbrev pub KeptCloses : Type 0
 KeptCloses = (path : List ℤ) (g : ℕ) (out : List ℕ) → keepReply path g (length out) .0 ≡ 0 → strayOf (pathOf path) ≡ false → StoredCloses (keepOut path g out)

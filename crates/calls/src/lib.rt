@@ -3,6 +3,7 @@ use contacts::Vertex;
 ghost use Rattle.drawing.specs.Drawing.{Draws};
 ghost use Rattle.kerb_drawing.specs.KerbDrawing.{DrawsKerb};
 ghost use Rattle.keeping.specs.Keeping.{Keeps};
+ghost use Rattle.kerb_keeping.specs.KerbKeeping.{KeepsKerb};
 ghost use Rattle.reading.specs.Reading.{Reads};
 ghost use Rattle.editing.specs.Replacing.{Replaces};
 ghost use Rattle.reaching.specs.Replies.{Reaches};
@@ -36,7 +37,22 @@ pub fn keep(path: &[i32], grade: u32, out: &mut [u8]) -> keeping::Kept
     keeping::keep_with(path, grade, &mut own, out)
 }
 
-// Reads the path of a sound outline into lent numbers, three a vertex.
+// Keeps a kerb's outline as bytes.
+pub fn keep_kerb(
+    points: &[i32],
+    grade: u32,
+    radius: u32,
+    join: u32,
+    closed: u32,
+    out: &mut [u8],
+) -> keeping::Kept
+    ensures { λ r. ⌜ KeepsKerb (now (points .entry)) grade radius join closed (now (out .entry)) r (now (out .exit)) ⌝ }
+{
+    let mut own = [0i32; 36908];
+    kerb_keeping::keep_kerb_with(points, grade, radius, join, closed, &mut own, out)
+}
+
+// Reads the path of a sound outline into lent numbers, three a vertex, of a kerb two.
 pub fn read(store: &[u8], out: &mut [i32]) -> reading::Read
     ensures { λ r. ⌜ Reads (now (store .entry)) (now (out .entry)) r (now (out .exit)) ⌝ }
 {

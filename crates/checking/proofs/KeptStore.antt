@@ -1,39 +1,100 @@
--- What is kept passes the rows of a store, whatever bytes stand after it: it says its own grade and path. Assumes nothing.
-use mathlib.Core.Path.{refl}
+-- What is kept passes the rows of a store, whatever bytes stand after it: it says its own form, grade and path. Assumes nothing.
+use mathlib.Core.Path.{_≡_, refl}
+use mathlib.Core.Bool.{Bool, true, false, _&&_}
 use mathlib.Core.List.{List, _++_}
 use Prim.Native.Nat.{ℕ, _≤_}
 use native.Mathlib.Omega.{arith}
+use lib.Dec.{eqb, ltb}
+use lib.IntN.{ℤ, pos, negsuc}
 use lib.ListN.{length, length-append}
 use borrow.Author.Tests.{le-ltb}
+use Rattle.turning.specs.Bounds.{Radius}
 use Rattle.contacts.specs.Limits.{firstOutside}
-use Rattle.paths.specs.Paths.{Within}
 use Rattle.contacts.specs.declared.Vertex.{Vertex}
-use Rattle.outline.specs.Outlines.{headerOf, wordsWith, outlineWords, outlineBytes}
+use Rattle.kerb.specs.declared.Join.{Join}
+use Rattle.kerb.specs.declared.Join.the-variants.{Bevel, Round}
+use Rattle.words.specs.Words.{wordOf, wordAt}
+use Rattle.outline.specs.Layout.{kindWord, kerbKind}
+use Rattle.outline.specs.Outlines.{joinWord, closedWord, styleWords, headerOf, partsWords, outlineWords, outlineBytes}
 use Rattle.outline.specs.Stores.{editionIn, kindIn, countIn}
-use Rattle.replies.specs.Replies.{gradeRow, countRow, outsideRow}
-use Rattle.checking.specs.StoreRows.{editionRow, kindRow, lengthRow, soundRow, storeRows}
+use Rattle.outline.specs.Theorems.{Formed}
+use Rattle.outline.specs.declared.Form.{Form}
+use Rattle.outline.specs.declared.Form.the-variants.{Stroke, Kerb}
 use Rattle.outline.proofs.ReadBack.{outline-length, grade-back, vertices-back, length-back, sound-back, header-word}
+use Rattle.replies.specs.Replies.{gradeRow, countRow, outsideRow}
+use Rattle.replies.specs.StyleRows.{styleFault, styleRow}
 use Rattle.replies.proofs.Rows.{NoneHold}
+use Rattle.replies.proofs.StyleFaults.{no-fault}
+use Rattle.heading.specs.StoreRows.{editionRow, kindRow, leastOf, shortRow, styleRowIn, lengthRow, soundRow, storeRows}
 
-pub store-none : (g : ℕ) (vs : List Vertex) (rest : List ℕ) → Within g vs → NoneHold (storeRows (outlineBytes g vs ++ rest))
-unfolding storeRows editionRow editionIn kindRow kindIn gradeRow countRow countIn lengthRow outsideRow soundRow outlineWords wordsWith headerOf
-store-none g vs rest h =
-    let s = outlineBytes g vs ++ rest in
-    let long : length (outlineBytes g vs) ≤ length s = omega (arith, length-append (outlineBytes g vs) rest) in (
-      rw (header-word g vs rest h 0, le-ltb (length s) 24 (omega (arith, outline-length g vs))) refl,
+-- ---- by the form
+
+kind-known : (f : Form) → ltb kerbKind (kindWord f) ≡ false
+kind-known Stroke = refl
+kind-known (Kerb y) = refl
+
+least-long : (f : Form) (g : ℕ) (vs : List Vertex) → leastOf (kindWord f) ≤ length (outlineBytes f g vs)
+unfolding leastOf
+least-long Stroke g vs = omega (arith, outline-length Stroke g vs)
+least-long (Kerb y) g vs = omega (arith, outline-length (Kerb y) g vs)
+
+least-24 : (f : Form) → 24 ≤ leastOf (kindWord f)
+unfolding leastOf
+least-24 Stroke = omega arith
+least-24 (Kerb y) = omega arith
+
+radius-range : (z : ℤ) → Radius z → wordOf z ≤ 268435456
+unfolding wordOf
+radius-range (pos n) h = omega (arith, h .high)
+radius-range (negsuc n) h = absurd (h .low .le)
+
+join-range : (j : Join) → joinWord j ≤ 1
+unfolding joinWord
+join-range Bevel = omega arith
+join-range Round = omega arith
+
+closed-range : (c : Bool) → closedWord c ≤ 1
+unfolding closedWord
+closed-range true = omega arith
+closed-range false = omega arith
+
+and-false : (b : Bool) → (b && false) ≡ false
+and-false true = refl
+and-false false = refl
+
+style-none : (f : Form) (g : ℕ) (vs : List Vertex) (rest : List ℕ) → Formed f g vs → styleRowIn (outlineBytes f g vs ++ rest) .0 ≡ false
+unfolding styleRowIn styleRow kindIn outlineWords partsWords headerOf styleWords
+style-none Stroke g vs rest h = rw (header-word Stroke g vs rest h 1) refl
+style-none (Kerb y) g vs rest h =
+    let e : 0 ≡ styleFault (wordOf (y .radius)) (joinWord (y .join)) (closedWord (y .closed)) = no-fault _ _ _ (radius-range (y .radius) (h .1 .0)) (join-range (y .join)) (closed-range (y .closed)) in
+    rw (header-word (Kerb y) g vs rest h 5, header-word (Kerb y) g vs rest h 6, header-word (Kerb y) g vs rest h 7, ← e) (and-false (eqb (wordAt (outlineBytes (Kerb y) g vs ++ rest) 1) kerbKind))
+
+pub store-none : (f : Form) (g : ℕ) (vs : List Vertex) (rest : List ℕ) → Formed f g vs → NoneHold (storeRows (outlineBytes f g vs ++ rest))
+unfolding storeRows editionRow editionIn kindRow kindIn shortRow gradeRow countRow countIn lengthRow outsideRow soundRow outlineWords partsWords headerOf
+store-none f g vs rest h =
+    let s = outlineBytes f g vs ++ rest in
+    let long : length (outlineBytes f g vs) ≤ length s = omega (arith, length-append (outlineBytes f g vs) rest) in
+    let least : leastOf (kindWord f) ≤ length s = omega (arith, least-long f g vs) in (
+      rw (header-word f g vs rest h 0, le-ltb (length s) 24 (omega (arith, least-24 f))) refl,
       (
-        rw (header-word g vs rest h 1) refl,
+        rw (header-word f g vs rest h 1) (kind-known f),
         (
-          rw (grade-back g vs rest h, le-ltb g 1 (h .low), le-ltb 8 g (h .high)) refl,
+          rw (header-word f g vs rest h 1) (le-ltb (length s) (leastOf (kindWord f)) least),
           (
-            rw (header-word g vs rest h 3) (le-ltb 4096 (length vs) (h .count)),
+            rw (grade-back f g vs rest h, le-ltb g 1 (h .0 .low), le-ltb 8 g (h .0 .high)) refl,
             (
-              rw (length-back g vs rest h) (le-ltb (length s) (length (outlineBytes g vs)) long),
+              style-none f g vs rest h,
               (
-                rw (vertices-back g vs rest h) (le-ltb (firstOutside vs) (length vs) (omega (arith, h .inside))),
+                rw (header-word f g vs rest h 3) (le-ltb 4096 (length vs) (h .0 .count)),
                 (
-                  rw (sound-back g vs rest h) refl,
-                  tt,
+                  rw (length-back f g vs rest h) (le-ltb (length s) (length (outlineBytes f g vs)) long),
+                  (
+                    rw (vertices-back f g vs rest h) (le-ltb (firstOutside vs) (length vs) (omega (arith, h .0 .inside))),
+                    (
+                      rw (sound-back f g vs rest h) refl,
+                      tt,
+                    ),
+                  ),
                 ),
               ),
             ),

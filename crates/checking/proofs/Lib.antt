@@ -1,7 +1,5 @@
 -- The crate's own laws.
-pub mod Comparisons
-pub mod FirstByte
 pub mod KeptStore
-pub mod Shown
+pub mod OtherKinds
 pub mod StoreReads
 pub mod StoreRows

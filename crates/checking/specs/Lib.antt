@@ -1,4 +1,3 @@
 -- What the contracts cite.
-pub mod Compares
+pub mod OtherKind
 pub mod StoreChecks
-pub mod StoreRows

@@ -13,7 +13,7 @@ use Rattle.replies.specs.Replies.{Reply, firstRow}
 use Rattle.outline.specs.Layout.{lengthOf}
 use Rattle.outline.specs.Stores.{lengthIn}
 use Rattle.checking.specs.StoreChecks.{Sound, StoreSays}
-use Rattle.checking.specs.StoreRows.{storeRows}
+use Rattle.heading.specs.StoreRows.{storeRows}
 use Rattle.chunk_table.specs.Tables.{damagedIn}
 use Rattle.chunks.specs.Answers.{replyOfDone, PutsOutline}
 use Rattle.chunks.specs.Calls.{tableRow, putRows, putReply, putOut, addedIn, changed}
@@ -25,9 +25,9 @@ use Rattle.chunks.proofs.Answered.{kept-chunk}
 use Rattle.chunks.proofs.OneOutcome.{one-done}
 use Rattle.replies.specs.declared.Refusal.{Refusal}
 use Rattle.replies.specs.declared.Refusal.the-variants.{Damaged}
-use Rattle.checking.specs.declared.Header.{Header}
-use Rattle.checking.specs.declared.Checked.{Checked}
-use Rattle.checking.specs.declared.Checked.the-variants.{Refused}
+use Rattle.heading.specs.declared.Header.{Header}
+use Rattle.heading.specs.declared.Checked.{Checked}
+use Rattle.heading.specs.declared.Checked.the-variants.{Refused}
 use Rattle.chunks.specs.declared.Done.{Done}
 use Rattle.chunks.specs.declared.Done.the-variants as done
 
@@ -70,13 +70,13 @@ module _ (c : List ℕ) (key : ℕ) (s : List ℕ) where
       record { reply = p .reply ∙ sym (as-put-reply e l); chunk = p .chunk ∙ sym (as-put e l) }
 
   -- the outline's own bytes, lent as a part of the store
-  pub adds-put : {h : Header} {end : ℕ} {r : Done} {c₁ : List ℕ} → damagedIn c ≡ false → Sound s h → end ≡ lengthOf (h .n) (h .m) → PutsOutline c key (take (end - 0) s) r c₁ → AddsOutline c key s r c₁
+  pub adds-put : {h : Header} {end : ℕ} {r : Done} {c₁ : List ℕ} → damagedIn c ≡ false → Sound s h → end ≡ lengthOf (h .form) (h .n) (h .m) → PutsOutline c key (take (end - 0) s) r c₁ → AddsOutline c key s r c₁
   unfolding ownBytes
   adds-put {end = end} h a e p =
       let f : take (end - 0) s ≡ ownBytes s = ap (λ (n : ℕ). take n s) (sub-zero end ∙ e ∙ header-length (a .head)) in
       adds-own h a (rw f at p)
 
-pub own-long : {s : List ℕ} {h : Header} → Sound s h → lengthOf (h .n) (h .m) ≤ length s
+pub own-long : {s : List ℕ} {h : Header} → Sound s h → lengthOf (h .form) (h .n) (h .m) ≤ length s
 own-long a = omega (arith, header-length (a .head), a .head .headed .long)
 
 pub one-adding : OneAdding

@@ -5,7 +5,7 @@ use Prim.Native.Nat.{ℕ}
 use lib.ListN.{take}
 use Rattle.replies.specs.Replies.{Reply, firstRow}
 use Rattle.outline.specs.Stores.{lengthIn}
-use Rattle.checking.specs.StoreRows.{storeRows}
+use Rattle.heading.specs.StoreRows.{storeRows}
 use Rattle.chunks.specs.Answers.{replyOfDone}
 use Rattle.chunks.specs.Calls.{tableRow, putRows, addedIn, changed}
 use Rattle.chunks.specs.Chunks.{gapIn}

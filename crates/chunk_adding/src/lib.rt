@@ -1,6 +1,6 @@
 // Add: an outline that is checked as reading checks it, stored in a chunk under a key.
-use checking::Checked;
-use checking::Header;
+use heading::Checked;
+use heading::Header;
 use checking::check;
 use chunk_table::damage::damaged;
 use chunks::Done;
@@ -22,7 +22,8 @@ fn add_outline(chunk: &mut [u8], key: u32, store: &[u8], h: Header) -> Done
 {
     let n = h.n;
     let m = h.m;
-    let end = whole_length(n, m);
+    let form = h.form;
+    let end = whole_length(form, n, m);
     put_outline(chunk, key, &store[0..end])
 }
 

@@ -11,7 +11,7 @@ use lib.ListN.{length}
 use lib.Seq.{length-take-le}
 use Rattle.replies.specs.Replies.{Reply}
 use Rattle.outline.specs.Stores.{lengthIn, dueIn}
-use Rattle.checking.specs.StoreRows.{storeRows}
+use Rattle.heading.specs.StoreRows.{storeRows}
 use Rattle.chunk_table.specs.Tables.{damagedIn}
 use Rattle.chunks.specs.Calls.{putReply, putOut, findReply, changed}
 use Rattle.chunk_laws.specs.Theorems.{foundBytes}

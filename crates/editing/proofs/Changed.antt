@@ -11,15 +11,19 @@ use Rattle.contacts.specs.Limits.{allowedOf, firstOutside}
 use Rattle.contacts.specs.declared.Vertex.{Vertex}
 use Rattle.locality.proofs.Locality.{earlier-kept, reach-kept}
 use Rattle.outline.specs.Outlines.{outlineBytes}
-use Rattle.outline.specs.Stores.{gradeIn, countIn, lengthIn, pathIn, bodiesIn, soundOf}
-use Rattle.checking.specs.StoreRows.{editionRow, kindRow, lengthRow, soundRow, storeRows}
+use Rattle.outline.specs.Stores.{formIn, gradeIn, countIn, lengthIn, pathIn, bodiesIn, soundOf}
+use Rattle.heading.specs.StoreRows.{editionRow, kindRow, shortRow, styleRowIn, lengthRow, soundRow, storeRows}
+use Rattle.replies.specs.StyleRows.{styleRow}
+use Rattle.checking.specs.OtherKind.{otherKindRow}
+use Rattle.checking.proofs.OtherKinds.{not-other}
 use Rattle.replies.specs.Replies.{gradeRow, countRow, outsideRow, indexRow, newRow, emptyRow, roomRow, written}
 use Rattle.editing.specs.Replacing.{replacedOf, replaceReply, replaceOut, ReplacedIsSound, StoreKept}
 use Rattle.paths.specs.Paths.{edgesOf, Within}
 use Rattle.keeping.specs.Keeping.{writeRows}
 use Rattle.replies.proofs.Rows.{NoneHold, first-none, either, empty-not}
 use Rattle.contacts.proofs.Allowed.{inside-first, outside-most}
-use Rattle.outline.proofs.ReadBack.{path-count-in, kept-is-sound}
+use Rattle.outline.proofs.ReadBack.{path-count-in, form-back, kept-is-sound}
+use Rattle.outline.specs.declared.Form.the-variants.{Stroke}
 
 -- ---- the path
 
@@ -32,22 +36,22 @@ outside-set (u ∷ vs) (suc k) v a h = rw (inside-first u vs h .0, firstOutside)
 -- ---- the call
 
 pub replace-none : (s : List ℕ) (k : ℕ) (v : Vertex) → replaceReply s k v .0 ≡ 0
-    → NoneHold (storeRows s ++ (indexRow (length (pathIn s)) k ∷ newRow v k ∷ writeRows (gradeIn s) (set (pathIn s) k v) (length s)))
-unfolding replaceReply storeRows editionRow kindRow gradeRow countRow lengthRow outsideRow soundRow indexRow newRow writeRows emptyRow roomRow
-replace-none s k v h = first-none _ _ (refl, (refl, (refl, (refl, (refl, (refl, (refl, (refl, (refl, (refl, (refl, tt))))))))))) h
+    → NoneHold (storeRows s ++ (otherKindRow s ∷ indexRow (length (pathIn s)) k ∷ newRow v k ∷ writeRows Stroke (gradeIn s) (set (pathIn s) k v) (length s)))
+unfolding replaceReply storeRows editionRow kindRow shortRow gradeRow styleRowIn styleRow countRow lengthRow outsideRow soundRow otherKindRow indexRow newRow writeRows emptyRow roomRow
+replace-none s k v h = first-none _ _ (refl, (refl, (refl, (refl, (refl, (refl, (refl, (refl, (refl, (refl, (refl, (refl, (refl, (refl, tt)))))))))))))) h
 
 -- the store's own path is within the limits, and so is it with a vertex that is allowed
 pub within-store : (s : List ℕ) (k : ℕ) (v : Vertex) → replaceReply s k v .0 ≡ 0 → Within (gradeIn s) (pathIn s)
 unfolding storeRows gradeRow countRow outsideRow
 within-store s k v h =
     let r = replace-none s k v h in
-    let g = either _ _ (r .1 .1 .0) in
+    let g = either _ _ (r .1 .1 .1 .0) in
     let vs = pathIn s in
     record {
       low = ltb-false _ _ (g .0);
       high = ltb-false _ _ (g .1);
-      count = omega (arith, path-count-in s, ltb-false 4096 (countIn s) (r .1 .1 .1 .0));
-      inside = le-antisymm (outside-most vs) (ltb-false _ _ (r .1 .1 .1 .1 .1 .0));
+      count = omega (arith, path-count-in s, ltb-false 4096 (countIn s) (r .1 .1 .1 .1 .1 .0));
+      inside = le-antisymm (outside-most vs) (ltb-false _ _ (r .1 .1 .1 .1 .1 .1 .1 .0));
     }
 
 pub within-changed : (g : ℕ) (vs : List Vertex) (k : ℕ) (v : Vertex) → Within g vs → allowedOf v ≡ true → Within g (set vs k v)
@@ -60,26 +64,34 @@ within-changed g vs k v h a = record {
 
 pub within-set : (s : List ℕ) (k : ℕ) (v : Vertex) → replaceReply s k v .0 ≡ 0 → Within (gradeIn s) (set (pathIn s) k v)
 unfolding storeRows newRow
-within-set s k v h = within-changed (gradeIn s) (pathIn s) k v (within-store s k v h) (not-false _ (replace-none s k v h .1 .1 .1 .1 .1 .1 .1 .1 .0))
+within-set s k v h = within-changed (gradeIn s) (pathIn s) k v (within-store s k v h) (not-false _ (replace-none s k v h .1 .1 .1 .1 .1 .1 .1 .1 .1 .1 .1 .0))
 
 pub sound-store : (s : List ℕ) (k : ℕ) (v : Vertex) → replaceReply s k v .0 ≡ 0 → soundOf s ≡ true
 unfolding storeRows soundRow
-sound-store s k v h = not-false _ (replace-none s k v h .1 .1 .1 .1 .1 .1 .0)
+sound-store s k v h = not-false _ (replace-none s k v h .1 .1 .1 .1 .1 .1 .1 .1 .0)
 
 -- the path with the new vertex has an edge where it has a vertex
 pub some-set : (s : List ℕ) (k : ℕ) (v : Vertex) → replaceReply s k v .0 ≡ 0 → 0 < length (set (pathIn s) k v) → 0 < length (edgesOf (gradeIn s) (set (pathIn s) k v))
 unfolding storeRows writeRows
-some-set s k v h = empty-not _ _ (replace-none s k v h .1 .1 .1 .1 .1 .1 .1 .1 .1 .0)
+some-set s k v h = empty-not _ _ (replace-none s k v h .1 .1 .1 .1 .1 .1 .1 .1 .1 .1 .1 .1 .0)
 
 pub out-is : (s : List ℕ) (k : ℕ) (v : Vertex) → replaceReply s k v .0 ≡ 0
-    → replaceOut s k v ≡ outlineBytes (gradeIn s) (set (pathIn s) k v) ++ (replicate (lengthIn s - length (replacedOf s k v)) 0 ++ drop (length (replacedOf s k v ++ replicate (lengthIn s - length (replacedOf s k v)) 0)) s)
+    → replaceOut s k v ≡ outlineBytes Stroke (gradeIn s) (set (pathIn s) k v) ++ (replicate (lengthIn s - length (replacedOf s k v)) 0 ++ drop (length (replacedOf s k v ++ replicate (lengthIn s - length (replacedOf s k v)) 0)) s)
 unfolding replaceOut written replacedOf
 out-is s k v h = rw (h, written) (append-assoc (replacedOf s k v) (replicate (lengthIn s - length (replacedOf s k v)) 0) _)
 
 pub replaced-is-sound : ReplacedIsSound
 replaced-is-sound s k v h =
-    let b = kept-is-sound (gradeIn s) (set (pathIn s) k v) (replicate (lengthIn s - length (replacedOf s k v)) 0 ++ drop (length (replacedOf s k v ++ replicate (lengthIn s - length (replacedOf s k v)) 0)) s) (within-set s k v h) in
-    (rw (out-is s k v h) (b .0), rw (out-is s k v h) (b .1), rw (out-is s k v h) (b .3))
+    let b = kept-is-sound Stroke (gradeIn s) (set (pathIn s) k v) (replicate (lengthIn s - length (replacedOf s k v)) 0 ++ drop (length (replacedOf s k v ++ replicate (lengthIn s - length (replacedOf s k v)) 0)) s) (within-set s k v h, tt) in
+    (rw (out-is s k v h) (b .1), rw (out-is s k v h) (b .2), rw (out-is s k v h) (b .4))
+
+-- it was of a stroke, and is
+pub stroke-store : (s : List ℕ) (k : ℕ) (v : Vertex) → replaceReply s k v .0 ≡ 0 → formIn s ≡ Stroke
+unfolding storeRows
+stroke-store s k v h = not-other s (replace-none s k v h .1 .1 .1 .1 .1 .1 .1 .1 .1 .0)
+
+pub stroke-replaced : (s : List ℕ) (k : ℕ) (v : Vertex) → replaceReply s k v .0 ≡ 0 → formIn (replaceOut s k v) ≡ Stroke
+stroke-replaced s k v h = rw (out-is s k v h) (form-back Stroke (gradeIn s) (set (pathIn s) k v) _ (within-set s k v h, tt))
 
 pub store-kept : StoreKept
 unfolding bodiesIn

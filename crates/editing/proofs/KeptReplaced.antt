@@ -1,7 +1,7 @@
 -- What is kept takes another vertex: it passes the rows of a store, and the four after them fail. Assumes nothing.
 use mathlib.Core.Path.{_≡_, _∙_}
 use mathlib.Core.Bool.{true}
-use mathlib.Core.List.{List, _∷_, _++_}
+use mathlib.Core.List.{List, [], _∷_, _++_}
 use Prim.Native.Nat.{ℕ, _<_}
 use borrow.Author.Tests.{lt-leb}
 use lib.ListN.{length, set}
@@ -10,10 +10,13 @@ use Rattle.contacts.specs.declared.Vertex.{Vertex}
 use Rattle.paths.specs.Paths.{edgesOf}
 use Rattle.outline.specs.Outlines.{outlineBytes}
 use Rattle.outline.proofs.ReadBack.{grade-back, vertices-back}
+use Rattle.outline.specs.declared.Form.the-variants.{Stroke}
 use Rattle.replies.specs.Replies.{Reply, Row, firstRow, indexRow, newRow}
 use Rattle.replies.proofs.Rows.{first-skip, empty-fails, room-enough}
 use Rattle.keeping.specs.Keeping.{writeRows}
-use Rattle.checking.specs.StoreRows.{storeRows}
+use Rattle.heading.specs.StoreRows.{storeRows}
+use Rattle.checking.specs.OtherKind.{otherKindRow}
+use Rattle.checking.proofs.OtherKinds.{kept-stroke}
 use Rattle.checking.proofs.KeptStore.{store-none}
 use Rattle.editing.specs.Replacing.{replacedOf, replaceReply, KeptIsReplaced}
 
@@ -24,8 +27,9 @@ change-none n k v rows last h a = rw (lt-leb n k h, firstRow, a, firstRow)
 pub kept-is-replaced : KeptIsReplaced
 unfolding replaceReply replacedOf writeRows
 kept-is-replaced g vs rest k v w h a e l =
-    let s = outlineBytes g vs ++ rest in
+    let s = outlineBytes Stroke g vs ++ rest in
     let us = set vs k v in
-    let m = length (outlineBytes g us) in
-    first-skip (storeRows s) _ _ (store-none g vs rest w)
-    ∙ rw (grade-back g vs rest w, vertices-back g vs rest w) (change-none (length vs) k v _ _ h a ∙ empty-fails (length us) (length (edgesOf g us)) _ (0, m) e ∙ room-enough m (length s) m (0, m) l)
+    let m = length (outlineBytes Stroke g us) in
+    first-skip (storeRows s) _ _ (store-none Stroke g vs rest (w, tt))
+    ∙ first-skip (otherKindRow s ∷ []) _ _ (kept-stroke g vs rest w, tt)
+    ∙ rw (grade-back Stroke g vs rest (w, tt), vertices-back Stroke g vs rest (w, tt)) (change-none (length vs) k v _ _ h a ∙ empty-fails (length us) (length (edgesOf g us)) _ (0, m) e ∙ room-enough m (length s) m (0, m) l)

@@ -23,7 +23,7 @@ use Rattle.contacts.specs.declared.Vertex.{Vertex}
 use Rattle.outline.specs.Layout.{lengthOf}
 use Rattle.outline.specs.Stores.{gradeIn, lengthIn, pathIn}
 use Rattle.replies.specs.Replies.{firstRow, indexRow, newRow}
-use Rattle.checking.specs.StoreRows.{storeRows}
+use Rattle.heading.specs.StoreRows.{storeRows}
 use Rattle.editing.specs.Replacing.{replacedOf, replaceReply, replaceOut, replyOfReplaced, Replaces}
 use Rattle.replies.specs.Refusals.{refusalOf}
 use Rattle.keeping.specs.Keeping.{writeRows, replyOfKept}
@@ -38,8 +38,9 @@ use Rattle.outline.proofs.ReadBack.{path-count-in, numbers-count}
 use Rattle.editing.proofs.Changed.{within-changed}
 use Rattle.replies.proofs.Rows.{rows-append, refused-written}
 use Rattle.replies.proofs.PathChecks.{within-fits}
-use Rattle.checking.proofs.Shown.{path-back}
+use Rattle.heading.proofs.Shown.{path-back}
 use Rattle.outline.proofs.Parts.{radius-size}
+use Rattle.outline.specs.declared.Form.the-variants.{Stroke}
 
 -- ---- a path and its numbers
 
@@ -96,18 +97,18 @@ module _ {s : List ℕ} {p : List ℤ} {g n m : ℕ} (h : Known s p g n m) where
   known-count : length (pathIn s) ≡ n
   known-count = path-count-in s ∙ sym (h .vertices)
 
-  known-long : lengthOf n m ≡ lengthIn s
+  known-long : lengthOf Stroke n m ≡ lengthIn s
   unfolding lengthIn
-  known-long = omega (arith, h .vertices, h .edges)
+  known-long = rw (h .vertices, h .edges, h .form)
 
   -- what the code's sums and parts need
-  pub known-few : (n ≤ 4096) × (3 * n ≤ length p) × (lengthOf n m ≤ length s)
+  pub known-few : (n ≤ 4096) × (3 * n ≤ length p) × (lengthOf Stroke n m ≤ length s)
   known-few = (omega (arith, known-count, h .within .count), omega (arith, ap length (h .path), numbers-count (pathIn s), known-count, length-take (3 * n) p), omega (arith, known-long, h .long))
 
   module _ (k : ℕ) (v : Vertex) where
-    after : replaceReply s k v ≡ firstRow (indexRow n k ∷ newRow v k ∷ writeRows (gradeIn s) (set (pathIn s) k v) (length s)) (0, length (replacedOf s k v))
+    after : replaceReply s k v ≡ firstRow (indexRow n k ∷ newRow v k ∷ writeRows Stroke (gradeIn s) (set (pathIn s) k v) (length s)) (0, length (replacedOf s k v))
     unfolding replaceReply
-    after = rows-append (storeRows s) _ _ ∙ h .passed _ ∙ rw known-count
+    after = rows-append (storeRows s) _ _ ∙ h .passed _ ∙ h .other _ _ ∙ rw known-count
 
     pub change-none : n ≤ k → Replaces s k v (replaced.Refused (NoVertex k)) s
     unfolding replyOfReplaced refusalOf replaceOut firstRow indexRow
@@ -133,10 +134,10 @@ module _ {s : List ℕ} {p : List ℤ} {g n m : ℕ} (h : Known s p g n m) where
           let r : (4, k) ≡ replaceReply s k v = sym (after ∙ rw (lt-leb n k l, firstRow, a, firstRow)) in
           record { reply = r; store = refused-written (Outside k) _ s r }
 
-      pub change-done : (us : List Vertex) {old : ℕ} {a : Kept} {r : Replaced} {s′ : List ℕ} → allowedOf v ≡ true → us ≡ set (pathIn s) k v → old ≡ lengthOf n m
-          → Rewrites s g us old a s′ → replyOfReplaced r ≡ replyOfKept a → Replaces s k v r s′
+      pub change-done : (us : List Vertex) {old : ℕ} {a : Kept} {r : Replaced} {s′ : List ℕ} → allowedOf v ≡ true → us ≡ set (pathIn s) k v → old ≡ lengthOf Stroke n m
+          → Rewrites s Stroke g us old a s′ → replyOfReplaced r ≡ replyOfKept a → Replaces s k v r s′
       unfolding replacedOf replaceOut firstRow indexRow newRow
       change-done us {a = a} {s′ = s′} al eu eo w e =
-          let w′ : Rewrites s (gradeIn s) (set (pathIn s) k v) (lengthIn s) a s′ = rw (h .grade, eu, eo ∙ known-long) at w in
+          let w′ : Rewrites s Stroke (gradeIn s) (set (pathIn s) k v) (lengthIn s) a s′ = rw (h .grade, eu, eo ∙ known-long) at w in
           let f : replyOfKept a ≡ replaceReply s k v = w′ .reply ∙ sym (after ∙ rw (lt-leb n k l, firstRow, al, firstRow)) in
           record { reply = e ∙ f; store = rw f at (w′ .bytes) }

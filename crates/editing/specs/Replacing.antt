@@ -1,7 +1,7 @@
--- Document 01, "Replies, tested in this order": replace, its answer, its promise, and how far a replacement reaches. Its row 18 is document 02's,
--- request 9.
+-- Document 01, "Replies, tested in this order": replace, its answer, its promise, and how far a replacement reaches. Its rows 12 and 18 are document
+-- 02's, requests 3 and 9.
 use mathlib.Core.Bool.{true}
-use mathlib.Core.List.{List, [], _∷_, _++_}
+use mathlib.Core.List.{List, _∷_, _++_}
 use Prim.Native.Nat.{ℕ, _+_, _-_, _≤_, _<_}
 use lib.ListN.{length, drop, set, replicate, take}
 use Rattle.contacts.specs.Limits.{allowedOf}
@@ -9,6 +9,7 @@ use Rattle.contacts.specs.declared.Vertex.{Vertex}
 use Rattle.paths.specs.Paths.{edgesOf, Within}
 use Rattle.outline.specs.Outlines.{outlineBytes}
 use Rattle.outline.specs.Stores.{gradeIn, lengthIn, pathIn, soundOf, bodiesIn}
+use Rattle.outline.specs.declared.Form.the-variants.{Stroke}
 use mathlib.Core.Path.{_≡_}
 use Rattle.replies.specs.Replies.{Reply, firstRow, indexRow, newRow, written}
 use Rattle.keeping.specs.Keeping.{writeRows}
@@ -16,16 +17,17 @@ use Rattle.editing.specs.declared.Replaced.{Replaced}
 use Rattle.editing.specs.declared.Replaced.the-variants as replaced
 use Rattle.locality.specs.Local.{reachOf}
 use Rattle.replies.specs.Refusals.{refusalOf}
-use Rattle.checking.specs.StoreRows.{storeRows}
+use Rattle.heading.specs.StoreRows.{storeRows}
+use Rattle.checking.specs.OtherKind.{otherKindRow}
 
 -- ---- replace a vertex: the outline of the path with v at k
 
 unfoldable pub replacedOf : List ℕ → ℕ → Vertex → List ℕ
-replacedOf s k v = outlineBytes (gradeIn s) (set (pathIn s) k v)
+replacedOf s k v = outlineBytes Stroke (gradeIn s) (set (pathIn s) k v)
 
 unfoldable pub replaceReply : List ℕ → ℕ → Vertex → Reply
 replaceReply s k v =
-    firstRow (storeRows s ++ (indexRow (length (pathIn s)) k ∷ newRow v k ∷ writeRows (gradeIn s) (set (pathIn s) k v) (length s))) (0, length (replacedOf s k v))
+    firstRow (storeRows s ++ (otherKindRow s ∷ indexRow (length (pathIn s)) k ∷ newRow v k ∷ writeRows Stroke (gradeIn s) (set (pathIn s) k v) (length s))) (0, length (replacedOf s k v))
 
 -- A replaced outline that shrank is followed by zeros up to its old end.
 unfoldable pub replaceOut : List ℕ → ℕ → Vertex → List ℕ
@@ -45,8 +47,8 @@ pub record Replaces (store₀ : List ℕ) (index : ℕ) (v : Vertex) (answer : R
 -- room for the outline with it.
 abbrev pub KeptIsReplaced : Type 0
 KeptIsReplaced = (g : ℕ) (vs : List Vertex) (rest : List ℕ) (k : ℕ) (v : Vertex) → Within g vs → k < length vs → allowedOf v ≡ true
-    → 0 < length (edgesOf g (set vs k v)) → length (outlineBytes g (set vs k v)) ≤ length (outlineBytes g vs ++ rest)
-    → replaceReply (outlineBytes g vs ++ rest) k v ≡ (0, length (outlineBytes g (set vs k v)))
+    → 0 < length (edgesOf g (set vs k v)) → length (outlineBytes Stroke g (set vs k v)) ≤ length (outlineBytes Stroke g vs ++ rest)
+    → replaceReply (outlineBytes Stroke g vs ++ rest) k v ≡ (0, length (outlineBytes Stroke g (set vs k v)))
 
 -- A store in which a vertex was replaced is sound again, with the same grade and the path with that vertex.
 abbrev pub ReplacedIsSound : Type 0

@@ -1,11 +1,14 @@
 // replace: another vertex in the path of a kept outline.
 use crate::Replaced;
-use checking::Checked;
 use checking::check;
 use contacts::Vertex;
 use contacts::limits::allowed;
+use heading::Checked;
+use heading::Header;
 use keeping::Kept;
 use keeping::rewriting::rewrite;
+use outline::Form;
+use outline::layout::KERB_KIND;
 use outline::layout::whole_length;
 use replies::Refusal;
 ghost use mathlib.Core.Path.{_≡_};
@@ -18,7 +21,7 @@ ghost use Rattle.contacts.specs.Bounds.{Inside};
 ghost use Rattle.paths.specs.Paths.{vertexNumbers};
 ghost use Rattle.keeping.specs.Keeping.{replyOfKept};
 ghost use Rattle.editing.specs.Replacing.{replyOfReplaced, Replaces};
-ghost use Rattle.editing.specs.Known.{Known};
+ghost use Rattle.editing.specs.Known.{Known, Passed};
 
 // A coordinate as it stands among a path's numbers.
 fn narrow(z: i64) -> i32
@@ -74,8 +77,27 @@ pub fn change(
     }
     put_vertex(path, index, v);
     let numbers = 3 * n;
-    let old = whole_length(n, m);
+    let old = whole_length(Form::Stroke, n, m);
     replaced(rewrite(&path[0..numbers], n, grade, old, own, store))
+}
+
+// A store that passed its rows, if it is of a stroke.
+fn change_stroke(
+    store: &mut [u8],
+    h: Header,
+    index: usize,
+    v: Vertex,
+    path: &mut [i32],
+    own: &mut [i32],
+) -> Replaced
+    requires { ⌜ Passed (now store) (now path) h × (36908 ≤ length (now own)) ⌝ }
+    ensures { λ r. ⌜ Replaces (now (store .entry)) index v r (now (store .exit)) ⌝ }
+{
+    let form = h.form;
+    match form {
+        Form::Kerb(_) => Replaced::Refused(Refusal::OtherKind(KERB_KIND)),
+        Form::Stroke => change(store, h.grade, h.n, h.m, index, v, path, own),
+    }
 }
 
 // replace with numbers of the caller's: for the store's path, and for a step's edges.
@@ -92,6 +114,6 @@ pub fn replace_with(
     let checked = check(store, path, own);
     match checked {
         Checked::Refused(r) => Replaced::Refused(r),
-        Checked::Holds(h) => change(store, h.grade, h.n, h.m, index, v, path, own),
+        Checked::Holds(h) => change_stroke(store, h, index, v, path, own),
     }
 }

@@ -7,6 +7,7 @@ use lib.IntN.{ℤ}
 use lib.ListN.{length, replicate}
 use Rattle.paths.specs.Paths.{pathOf}
 use Rattle.outline.specs.Outlines.{outlineBytes}
+use Rattle.outline.specs.declared.Form.the-variants.{Stroke}
 use Rattle.replies.specs.Replies.{pathRows, written}
 use Rattle.keeping.specs.Keeping.{keepReply, keepOut, replyOfKept, Keeps}
 use Rattle.replies.specs.Refusals.{refusalOf}
@@ -21,13 +22,13 @@ use Rattle.replies.proofs.Rows.{rows-append, refused-written}
 use Rattle.replies.proofs.PathChecks.{path-refuses}
 
 -- from an old end at 0 there are no zeros
-no-zeros : (new : List ℕ) → new ++ replicate (0 - length new) 0 ≡ new
+pub no-zeros : (new : List ℕ) → new ++ replicate (0 - length new) 0 ≡ new
 no-zeros new = let e : 0 - length new ≡ 0 = omega arith in rw e (append-nil new)
 
-pub keeps-done : (path : List ℤ) {g n : ℕ} {out out₁ : List ℕ} {r : Kept} → Fits path g n → Rewrites out g (pathOf path) 0 r out₁ → Keeps path g out r out₁
+pub keeps-done : (path : List ℤ) {g n : ℕ} {out out₁ : List ℕ} {r : Kept} → Fits path g n → Rewrites out Stroke g (pathOf path) 0 r out₁ → Keeps path g out r out₁
 unfolding keepReply keepOut
 keeps-done path {g} {out = out} {r = r} h p =
-    let new = outlineBytes g (pathOf path) in
+    let new = outlineBytes Stroke g (pathOf path) in
     let k : replyOfKept r ≡ keepReply path g (length out) = p .reply ∙ sym (rows-append (pathRows path g) _ (0, length new) ∙ h .passed _) in
     record { reply = k; out = p .bytes ∙ (λ i. written (k i) (no-zeros new i) out) }
 
@@ -35,4 +36,4 @@ pub keeps-refused : (path : List ℤ) {g : ℕ} {c : PathCheck} (out : List ℕ)
 unfolding keepReply keepOut replyOfKept
 keeps-refused path {g} {c} out {r} s e =
     let k : refusalOf r ≡ keepReply path g (length out) = path-refuses path _ _ s e in
-    record { reply = k; out = refused-written r (outlineBytes g (pathOf path)) out k }
+    record { reply = k; out = refused-written r (outlineBytes Stroke g (pathOf path)) out k }

@@ -6,7 +6,7 @@ use Rattle.keeping.specs.declared.Kept.{Kept}
 use Rattle.keeping.specs.declared.Kept.the-variants as kept
 use Rattle.replies.proofs.OneOutcome.{from, from-refusal}
 
-kept-back : (r : Kept) → from kept.Bytes kept.Refused (replyOfKept r .0) (replyOfKept r .1) ≡ r
+pub kept-back : (r : Kept) → from kept.Bytes kept.Refused (replyOfKept r .0) (replyOfKept r .1) ≡ r
 unfolding from replyOfKept
 kept-back (kept.Bytes n) = refl
 kept-back (kept.Refused r) = from-refusal kept.Bytes kept.Refused r

@@ -10,11 +10,10 @@ use lib.ListN.{length, set, replicate, length-append, length-replicate, length-s
 use Rattle.runs.specs.Runs.{spread, over, Runs, put}
 use Rattle.runs.proofs.Laws.{over-append}
 use Rattle.runs.proofs.Written.{over-whole}
-use Rattle.paths.specs.Paths.{edgesOf}
 use Rattle.contacts.specs.declared.Vertex.{Vertex}
 use Rattle.outline.specs.Layout.{lengthOf}
 use Rattle.words.specs.Words.{fourBytes, bytesOf}
-use Rattle.outline.specs.Outlines.{outlineWords, outlineBytes}
+use Rattle.outline.specs.Outlines.{edgesFor, outlineWords, outlineBytes}
 use Rattle.replies.specs.Replies.{emptyRow}
 use Rattle.replies.specs.Refusals.{refusalOf}
 use Rattle.keeping.specs.Keeping.{writeRows, replyOfKept}
@@ -22,6 +21,7 @@ use Rattle.keeping.specs.Rewriting.{Writes, Rewrites}
 use Rattle.replies.specs.declared.Refusal.the-variants.{NoRoom, WithoutEdges}
 use Rattle.keeping.specs.declared.Kept.the-variants.{Bytes, Refused}
 use Rattle.outline.proofs.ReadBack.{outline-length}
+use Rattle.outline.specs.declared.Form.{Form}
 use Rattle.replies.proofs.Rows.{first-holds, empty-passes, empty-not, room-short, room-enough, refused-written, done-written}
 
 -- ---- zeros
@@ -46,14 +46,14 @@ clear-end {to = to} {i} h l = let k : to - i ≡ 0 = omega arith in sym (h .on �
 
 -- ---- written
 
-pub needed-is : (g : ℕ) (vs : List Vertex) {n m needed : ℕ} → n ≡ length vs → m ≡ length (edgesOf g vs) → needed ≡ lengthOf n m → needed ≡ length (outlineBytes g vs)
-needed-is g vs en em e = omega (arith, outline-length g vs)
+pub needed-is : (f : Form) (g : ℕ) (vs : List Vertex) {n m needed : ℕ} → n ≡ length vs → m ≡ length (edgesFor f g vs) → needed ≡ lengthOf f n m → needed ≡ length (outlineBytes f g vs)
+needed-is f g vs en em e = e ∙ (λ i. lengthOf f (en i) (em i)) ∙ sym (outline-length f g vs)
 
-pub write-done : (g : ℕ) (vs : List Vertex) (s : List ℕ) (old : ℕ) {s₁ s₂ : List ℕ} {end : ℕ} → Runs put fourBytes s 0 (outlineWords g vs) s₁ end
-    → s₂ ≡ over put s₁ end (replicate (old - end) 0) → length (outlineBytes g vs) ≤ length s → old ≤ length s → Writes s (outlineBytes g vs) old end s₂
+pub write-done : (f : Form) (g : ℕ) (vs : List Vertex) (s : List ℕ) (old : ℕ) {s₁ s₂ : List ℕ} {end : ℕ} → Runs put fourBytes s 0 (outlineWords f g vs) s₁ end
+    → s₂ ≡ over put s₁ end (replicate (old - end) 0) → length (outlineBytes f g vs) ≤ length s → old ≤ length s → Writes s (outlineBytes f g vs) old end s₂
 unfolding outlineBytes bytesOf
-write-done g vs s old {s₁} {s₂} {end} p q h o =
-    let new = spread fourBytes (outlineWords g vs) in
+write-done f g vs s old {s₁} {s₂} {end} p q h o =
+    let new = spread fourBytes (outlineWords f g vs) in
     let e : end ≡ length new = p .pos ∙ zero-add (length new) in
     let zeros = replicate {A = ℕ} (old - length new) 0 in
     let n : length (new ++ zeros) ≤ length s = omega (arith, length-append new zeros, length-replicate {A = ℕ} (old - length new) 0) in
@@ -66,31 +66,31 @@ write-done g vs s old {s₁} {s₂} {end} p q h o =
 
 -- ---- the rows before it
 
-module _ (g : ℕ) (vs : List Vertex) (s : List ℕ) (old : ℕ) {n m : ℕ} (en : n ≡ length vs) (em : m ≡ length (edgesOf g vs)) where
-  pub rewrite-empty : emptyRow n m .0 ≡ true → Rewrites s g vs old (Refused (WithoutEdges n)) s
+module _ (f : Form) (g : ℕ) (vs : List Vertex) (s : List ℕ) (old : ℕ) {n m : ℕ} (en : n ≡ length vs) (em : m ≡ length (edgesFor f g vs)) where
+  pub rewrite-empty : emptyRow n m .0 ≡ true → Rewrites s f g vs old (Refused (WithoutEdges n)) s
   unfolding replyOfKept refusalOf writeRows emptyRow
   rewrite-empty h =
-      let k : emptyRow (length vs) (length (edgesOf g vs)) .0 ≡ true = rw (en, em) at h in
+      let k : emptyRow (length vs) (length (edgesFor f g vs)) .0 ≡ true = rw (en, em) at h in
       record { reply = ap (λ (x : ℕ). (18, x)) en ∙ sym (first-holds _ _ _ k); bytes = refused-written (WithoutEdges n) _ s refl }
 
   module _ (h : emptyRow n m .0 ≡ false) where
-    some : 0 < length vs → 0 < length (edgesOf g vs)
+    some : 0 < length vs → 0 < length (edgesFor f g vs)
     some = rw (en, em) at (empty-not n m h)
 
-    pub rewrite-short : {needed : ℕ} → needed ≡ length (outlineBytes g vs) → length s < needed → Rewrites s g vs old (Refused (NoRoom needed)) s
+    pub rewrite-short : {needed : ℕ} → needed ≡ length (outlineBytes f g vs) → length s < needed → Rewrites s f g vs old (Refused (NoRoom needed)) s
     unfolding replyOfKept refusalOf writeRows
     rewrite-short e l =
-        let k = length (outlineBytes g vs) in
+        let k = length (outlineBytes f g vs) in
         record {
-          reply = ap (λ (x : ℕ). (5, x)) e ∙ sym (empty-passes (length vs) (length (edgesOf g vs)) _ (0, k) some ∙ room-short k (length s) k (0, k) (omega arith));
+          reply = ap (λ (x : ℕ). (5, x)) e ∙ sym (empty-passes (length vs) (length (edgesFor f g vs)) _ (0, k) some ∙ room-short k (length s) k (0, k) (omega arith));
           bytes = refused-written (NoRoom _) _ s refl;
         }
 
-    pub rewrite-done : {s₁ : List ℕ} {end : ℕ} → length (outlineBytes g vs) ≤ length s → Writes s (outlineBytes g vs) old end s₁ → Rewrites s g vs old (Bytes end) s₁
+    pub rewrite-done : {s₁ : List ℕ} {end : ℕ} → length (outlineBytes f g vs) ≤ length s → Writes s (outlineBytes f g vs) old end s₁ → Rewrites s f g vs old (Bytes end) s₁
     unfolding replyOfKept writeRows
     rewrite-done l w =
-        let k = length (outlineBytes g vs) in
+        let k = length (outlineBytes f g vs) in
         record {
-          reply = ap (λ (x : ℕ). (0, x)) (w .long) ∙ sym (empty-passes (length vs) (length (edgesOf g vs)) _ (0, k) some ∙ room-enough k (length s) k (0, k) l);
+          reply = ap (λ (x : ℕ). (0, x)) (w .long) ∙ sym (empty-passes (length vs) (length (edgesFor f g vs)) _ (0, k) some ∙ room-enough k (length s) k (0, k) l);
           bytes = w .bytes;
         }

@@ -5,7 +5,9 @@ use lib.IntN.{ℤ}
 use lib.ListN.{length, take}
 use Rattle.contacts.specs.declared.Vertex.{Vertex}
 use Rattle.paths.specs.Paths.{pathOf, edgesOf, Within}
-use Rattle.outline.specs.Outlines.{outlineBytes}
+use Rattle.outline.specs.Outlines.{edgesFor, outlineBytes}
+use Rattle.outline.specs.declared.Form.{Form}
+use Rattle.outline.specs.declared.Form.the-variants.{Stroke}
 use mathlib.Core.Path.{_≡_}
 use Rattle.replies.specs.Replies.{Reply, Row, firstRow, emptyRow, roomRow, pathRows, written}
 use Rattle.keeping.specs.declared.Kept.{Kept}
@@ -15,17 +17,17 @@ use Rattle.replies.specs.Refusals.{refusalOf}
 -- ---- keep them as bytes
 
 -- 18, then 5: the rows of an outline that is to be written into so many bytes, after every row of its vertices.
-unfoldable pub writeRows : ℕ → List Vertex → ℕ → List Row
-writeRows g vs room =
-    let m = length (outlineBytes g vs) in
-    emptyRow (length vs) (length (edgesOf g vs)) ∷ roomRow m room m ∷ []
+unfoldable pub writeRows : Form → ℕ → List Vertex → ℕ → List Row
+writeRows f g vs room =
+    let m = length (outlineBytes f g vs) in
+    emptyRow (length vs) (length (edgesFor f g vs)) ∷ roomRow m room m ∷ []
 
 unfoldable pub keepReply : List ℤ → ℕ → ℕ → Reply
 keepReply l g room =
-    firstRow (pathRows l g ++ writeRows g (pathOf l) room) (0, length (outlineBytes g (pathOf l)))
+    firstRow (pathRows l g ++ writeRows Stroke g (pathOf l) room) (0, length (outlineBytes Stroke g (pathOf l)))
 
 unfoldable pub keepOut : List ℤ → ℕ → List ℕ → List ℕ
-keepOut l g room = written (keepReply l g (length room)) (outlineBytes g (pathOf l)) room
+keepOut l g room = written (keepReply l g (length room)) (outlineBytes Stroke g (pathOf l)) room
 
 unfoldable pub replyOfKept : Kept → Reply
 replyOfKept (kept.Bytes n) = (0, n)
@@ -38,8 +40,8 @@ pub record Keeps (path : List ℤ) (grade : ℕ) (out₀ : List ℕ) (answer : K
 -- Numbers lent as triples, a grade, vertices within the limits, an edge where there are vertices and room enough are kept.
 abbrev pub PathIsKept : Type 0
 PathIsKept = (path : List ℤ) (g room : ℕ) → length path % 3 ≡ 0 → Within g (pathOf path) → (0 < length (pathOf path) → 0 < length (edgesOf g (pathOf path)))
-    → length (outlineBytes g (pathOf path)) ≤ room
-    → keepReply path g room ≡ (0, length (outlineBytes g (pathOf path)))
+    → length (outlineBytes Stroke g (pathOf path)) ≤ room
+    → keepReply path g room ≡ (0, length (outlineBytes Stroke g (pathOf path)))
 
 -- A path and grade keep to one outline: what was kept in one room is kept in any other that holds it, in the same bytes.
 abbrev pub OneOutlineKept : Type 0

@@ -1,5 +1,6 @@
 // An outline filled in: the table and the bodies in one walk over lent triples.
 use contacts::Vertex;
+use outline::Form;
 use outline::layout::FIRST_EDITION;
 use outline::layout::HEADER;
 use outline::layout::STROKE_KIND;
@@ -13,7 +14,7 @@ use words::put_word;
 use words::wide_bits;
 ghost use mathlib.Core.Path.{_≡_};
 ghost use mathlib.Core.List.{[], _∷_};
-ghost use Prim.Native.Nat.{_+_, _*_, _≤_, _<_};
+ghost use Prim.Native.Nat.{_+_, _≤_, _<_};
 ghost use lib.ListN.{length, drop};
 ghost use Rattle.runs.specs.Runs.{Runs, Room, put};
 ghost use Rattle.plane.specs.Directions.{UnitLong};
@@ -26,6 +27,7 @@ ghost use Rattle.outline.specs.Layout.{headerBytes, frontBytes};
 ghost use Rattle.words.specs.Words.{fourBytes};
 ghost use Rattle.outline.specs.Outlines.{headerOf, entryOf, tableOf, bodyWords, outlineWords};
 ghost use Rattle.outline.specs.Parts.{tableFrom, wordsFrom};
+ghost use Rattle.outline.specs.declared.Form.the-variants.{Stroke};
 ghost use Rattle.keeping.specs.Fills.{Apart, Both, StepFills};
 
 // Where filling stands: the walk, and where the table and the bodies go on.
@@ -49,7 +51,7 @@ fn put_entry(s: &mut [u8], at: usize, v: Vertex, count: u32) -> usize
 
 // The header.
 fn put_header(s: &mut [u8], grade: u32, n: u32, m: u32) -> usize
-    ensures { λ r. ⌜ Runs put fourBytes (now (s .entry)) 0 (headerOf grade n m) (now (s .exit)) r ⌝ }
+    ensures { λ r. ⌜ Runs put fourBytes (now (s .entry)) 0 (headerOf Stroke grade n m) (now (s .exit)) r ⌝ }
 {
     let a = put_word(s, 0, FIRST_EDITION);
     let b = put_word(s, a, STROKE_KIND);
@@ -116,9 +118,9 @@ fn fill_from(
 // The whole table and all bodies.
 fn fill(path: &[i32], n: usize, grade: u32, own: &mut [i32], s: &mut [u8]) -> usize
     requires { ⌜ (n ≡ length (pathOf (now path))) × Within grade (pathOf (now path)) × (36908 ≤ length (now own)) ⌝ }
-    ensures { λ r. ⌜ Both (now (s .entry)) headerBytes (tableOf (pathOf (now (path .entry))) (bodiesOf grade (pathOf (now (path .entry))))) (frontBytes n) (bodyWords (edgesOf grade (pathOf (now (path .entry))))) (now (s .exit)) r ⌝ }
+    ensures { λ r. ⌜ Both (now (s .entry)) (headerBytes Stroke) (tableOf (pathOf (now (path .entry))) (bodiesOf grade (pathOf (now (path .entry))))) (frontBytes Stroke n) (bodyWords (edgesOf grade (pathOf (now (path .entry))))) (now (s .exit)) r ⌝ }
 {
-    let base = front(n);
+    let base = front(Form::Stroke, n);
     if n == 0 {
         put_word(s, HEADER, 0);
         return base;
@@ -138,7 +140,7 @@ fn fill(path: &[i32], n: usize, grade: u32, own: &mut [i32], s: &mut [u8]) -> us
 pub fn outline(path: &[i32], n: usize, m: usize, grade: u32, own: &mut [i32], s: &mut [u8]) -> usize
     requires { ⌜ (n ≡ length (pathOf (now path))) × Within grade (pathOf (now path)) × (36908 ≤ length (now own)) ⌝ }
     requires { ⌜ m ≡ length (edgesOf grade (pathOf (now path))) ⌝ }
-    ensures { λ r. ⌜ Runs put fourBytes (now (s .entry)) 0 (outlineWords grade (pathOf (now (path .entry)))) (now (s .exit)) r ⌝ }
+    ensures { λ r. ⌜ Runs put fourBytes (now (s .entry)) 0 (outlineWords Stroke grade (pathOf (now (path .entry)))) (now (s .exit)) r ⌝ }
 {
     put_header(s, grade, n as u32, m as u32);
     fill(path, n, grade, own, s)

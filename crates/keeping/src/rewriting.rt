@@ -1,6 +1,7 @@
 // The outline of a path written into lent bytes: counted, held against its rows, filled in, with zeros up to an old end.
 use crate::Kept;
 use crate::filling::outline;
+use outline::Form;
 use outline::layout::whole_length;
 use paths::paths::walk;
 use plane::direction::step;
@@ -13,11 +14,12 @@ ghost use lib.ListN.{length, replicate};
 ghost use Rattle.runs.specs.Runs.{over, put};
 ghost use Rattle.paths.specs.Paths.{pathOf, edgesOf, Within};
 ghost use Rattle.outline.specs.Outlines.{outlineBytes};
+ghost use Rattle.outline.specs.declared.Form.the-variants.{Stroke};
 ghost use Rattle.replies.specs.Checks.{Fits};
 ghost use Rattle.keeping.specs.Rewriting.{Writes, Rewrites};
 
 // Zeros from one place up to another, where that lies further on.
-fn clear(s: &mut [u8], from: usize, to: usize)
+pub fn clear(s: &mut [u8], from: usize, to: usize)
     ensures { λ _. ⌜ now (s .exit) ≡ over put (now (s .entry)) from (replicate (to - from) 0) ⌝ }
 {
     let mut i = from;
@@ -47,8 +49,8 @@ pub fn write(
     s: &mut [u8],
 ) -> usize
     requires { ⌜ (n ≡ length (pathOf (now path))) × Within grade (pathOf (now path)) × (36908 ≤ length (now own)) ⌝ }
-    requires { ⌜ (m ≡ length (edgesOf grade (pathOf (now path)))) × (length (outlineBytes grade (pathOf (now path))) ≤ length (now s)) × (old ≤ length (now s)) ⌝ }
-    ensures { λ r. ⌜ Writes (now (s .entry)) (outlineBytes grade (pathOf (now (path .entry)))) old r (now (s .exit)) ⌝ }
+    requires { ⌜ (m ≡ length (edgesOf grade (pathOf (now path)))) × (length (outlineBytes Stroke grade (pathOf (now path))) ≤ length (now s)) × (old ≤ length (now s)) ⌝ }
+    ensures { λ r. ⌜ Writes (now (s .entry)) (outlineBytes Stroke grade (pathOf (now (path .entry)))) old r (now (s .exit)) ⌝ }
 {
     let end = outline(path, n, m, grade, own, s);
     clear(s, end, old);
@@ -66,10 +68,10 @@ pub fn rewrite(
     s: &mut [u8],
 ) -> Kept
     requires { ⌜ Fits (now path) grade n × (old ≤ length (now s)) × (36908 ≤ length (now own)) ⌝ }
-    ensures { λ r. ⌜ Rewrites (now (s .entry)) grade (pathOf (now (path .entry))) old r (now (s .exit)) ⌝ }
+    ensures { λ r. ⌜ Rewrites (now (s .entry)) Stroke grade (pathOf (now (path .entry))) old r (now (s .exit)) ⌝ }
 {
     let m = count(path, n, grade);
-    let needed = whole_length(n, m);
+    let needed = whole_length(Form::Stroke, n, m);
     let empty = without_edges(n, m);
     if empty {
         return Kept::Refused(Refusal::WithoutEdges(n));

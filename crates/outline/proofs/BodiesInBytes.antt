@@ -13,13 +13,14 @@ use lib.Seq.{take-suc, split-at, take-at, drop-at}
 use Rattle.runs.specs.Runs.{spread}
 use Rattle.runs.proofs.Laws.{spread-append}
 use Rattle.turning.specs.declared.Edge.{Edge}
-use Rattle.paths.specs.Paths.{bodiesOf, joined, Within}
+use Rattle.paths.specs.Paths.{bodiesOf, joined, edgesOf, Within}
 use Rattle.contacts.specs.declared.Vertex.{Vertex}
 use Rattle.outline.specs.Layout.{headerWords, entryWords, entryAt, edgeBytes, lengthOf}
+use Rattle.outline.specs.declared.Form.the-variants.{Stroke}
 use Rattle.words.specs.Words.{fourBytes, bytesOf, wordsIn, wordAt}
-use Rattle.outline.specs.Outlines.{headerOf, entryOf, tableOf, bodyWords, wordsWith, outlineWords, outlineBytes}
+use Rattle.outline.specs.Outlines.{styleWords, headerOf, entryOf, tableOf, bodyWords, partsWords, outlineWords, outlineBytes}
 use Rattle.outline.specs.Stores.{countIn, edgesIn, edgesBefore, bodyBytesIn}
-use Rattle.outline.proofs.ReadBack.{bodies-count, table-length, numbers-length, header-word}
+use Rattle.outline.proofs.ReadBack.{bodies-count, stroke-length, numbers-length, header-word, count-back}
 use Rattle.words.proofs.Bytes.{bytes-length}
 use Rattle.outline.proofs.Parts.{body-append}
 
@@ -64,21 +65,21 @@ closing-count (v ∷ vs) (b ∷ bs) ws h =
 
 module _ (g : ℕ) (vs : List Vertex) (rest : List ℕ) (h : Within g vs) where
   store : List ℕ
-  store = outlineBytes g vs ++ rest
+  store = outlineBytes Stroke g vs ++ rest
 
   bodies : List (List Edge)
   bodies = bodiesOf g vs
 
   -- a word past the header
   word-past : (j : ℕ) → wordAt store (5 + j) ≡ getD (tableOf vs bodies ++ (bodyWords (joined bodies) ++ wordsIn rest)) j 0
-  unfolding store bodies outlineWords wordsWith headerOf
+  unfolding store bodies outlineWords partsWords headerOf styleWords edgesOf
   word-past j =
       let e : 5 + j ≡ suc (suc (suc (suc (suc j)))) = omega arith in
-      header-word g vs rest h (5 + j) ∙ rw (e, append-assoc (tableOf vs bodies) (bodyWords (joined bodies)) (wordsIn rest))
+      header-word Stroke g vs rest (h, tt) (5 + j) ∙ rw (e, append-assoc (tableOf vs bodies) (bodyWords (joined bodies)) (wordsIn rest))
 
   count-is : countIn store ≡ length vs
-  unfolding store countIn outlineWords wordsWith headerOf
-  count-is = header-word g vs rest h 3
+  unfolding store
+  count-is = count-back Stroke g vs rest (h, tt)
 
   edges-is : (i : ℕ) → i ≤ length vs → edgesIn store i ≡ length (getD bodies i [])
   unfolding edgesIn bodies
@@ -87,8 +88,8 @@ module _ (g : ℕ) (vs : List Vertex) (rest : List ℕ) (h : Within g vs) where
       go : (x : Bool) → ltb i (countIn store) ≡ x → edgesIn store i ≡ length (getD bodies i [])
       go true e =
           let k : i < length vs = rw count-is at (ltb-true i (countIn store) e) in
-          let f : entryAt i + 3 ≡ headerWords + (3 + entryWords * i) = omega arith in
-          rw (e, edgesIn, f) (word-past (3 + entryWords * i) ∙ entry-count vs bodies _ i (bodies-count g vs) k)
+          let f : entryAt Stroke i + 3 ≡ headerWords Stroke + (3 + entryWords Stroke * i) = omega arith in
+          rw (e, edgesIn, f) (word-past (3 + entryWords Stroke * i) ∙ entry-count vs bodies _ i (bodies-count g vs) k)
       go false e =
           let k : i ≡ length vs = le-antisymm l (rw count-is at (ltb-false i (countIn store) e)) in
           rw (e, edgesIn, count-is, k) (word-past (4 * length vs) ∙ closing-count vs bodies _ (bodies-count g vs))
@@ -100,15 +101,15 @@ module _ (g : ℕ) (vs : List Vertex) (rest : List ℕ) (h : Within g vs) where
 
   module _ (i : ℕ) (l : i ≤ length vs) where
     front : List ℕ
-    front = headerOf g (length vs) (length (joined bodies)) ++ (tableOf vs bodies ++ bodyWords (joined (take i bodies)))
+    front = headerOf Stroke g (length vs) (length (joined bodies)) ++ (tableOf vs bodies ++ bodyWords (joined (take i bodies)))
 
-    front-long : length (bytesOf front) ≡ lengthOf (length vs) (edgesBefore store i)
-    unfolding front headerOf bodies
+    front-long : length (bytesOf front) ≡ lengthOf Stroke (length vs) (edgesBefore store i)
+    unfolding front headerOf styleWords bodies
     front-long = omega (
       arith,
       bytes-length front,
       length-append (tableOf vs bodies) (bodyWords (joined (take i bodies))),
-      table-length vs bodies (bodies-count g vs),
+      stroke-length vs bodies (bodies-count g vs),
       numbers-length (joined (take i bodies)),
       before-is i l,
     )
@@ -119,21 +120,21 @@ module _ (g : ℕ) (vs : List Vertex) (rest : List ℕ) (h : Within g vs) where
     body-long : length (bytesOf (bodyWords (getD bodies i []))) ≡ edgeBytes * edgesIn store i
     body-long = omega (arith, bytes-length (bodyWords (getD bodies i [])), numbers-length (getD bodies i []), edges-is i l)
 
-    words-split : outlineWords g vs ≡ front ++ (bodyWords (getD bodies i []) ++ bodyWords (joined (drop (suc i) bodies)))
-    unfolding front bodies outlineWords wordsWith headerOf
+    words-split : outlineWords Stroke g vs ≡ front ++ (bodyWords (getD bodies i []) ++ bodyWords (joined (drop (suc i) bodies)))
+    unfolding front bodies outlineWords partsWords headerOf styleWords edgesOf
     words-split =
         let e : bodyWords (joined bodies) ≡ bodyWords (joined (take i bodies)) ++ (bodyWords (getD bodies i []) ++ bodyWords (joined (drop (suc i) bodies))) =
         ap bodyWords (joined-split bodies i (omega (arith, bodies-count g vs))) ∙ simp body-append in
-        ap (λ (ws : List ℕ). headerOf g (length vs) (length (joined bodies)) ++ ws) (ap (λ (ws : List ℕ). tableOf vs bodies ++ ws) e ∙ sym (append-assoc (tableOf vs bodies) _ _))
+        ap (λ (ws : List ℕ). headerOf Stroke g (length vs) (length (joined bodies)) ++ ws) (ap (λ (ws : List ℕ). tableOf vs bodies ++ ws) e ∙ sym (append-assoc (tableOf vs bodies) _ _))
 
     bytes-split : store ≡ bytesOf front ++ (bytesOf (bodyWords (getD bodies i [])) ++ back)
     unfolding store back bytesOf outlineBytes
     bytes-split = ap (λ (ws : List ℕ). spread fourBytes ws ++ rest) words-split ∙ simp (spread-append, append-assoc)
 
-    pub body-bytes : bodyBytesIn (outlineBytes g vs ++ rest) i ≡ bytesOf (bodyWords (getD (bodiesOf g vs) i []))
+    pub body-bytes : bodyBytesIn (outlineBytes Stroke g vs ++ rest) i ≡ bytesOf (bodyWords (getD (bodiesOf g vs) i []))
     unfolding bodyBytesIn store bodies
     body-bytes =
-        let e : length (bytesOf front) ≡ lengthOf (countIn store) (edgesBefore store i) = omega (arith, front-long, count-is) in
+        let e : length (bytesOf front) ≡ lengthOf Stroke (countIn store) (edgesBefore store i) = omega (arith, front-long, count-is) in
         let b = bytesOf (bodyWords (getD bodies i [])) in
-        ap (λ (l : List ℕ). take (edgeBytes * edgesIn store i) l) (ap (drop (lengthOf (countIn store) (edgesBefore store i))) bytes-split ∙ drop-at (bytesOf front) (b ++ back) _ e)
+        ap (λ (l : List ℕ). take (edgeBytes * edgesIn store i) l) (ap (drop (lengthOf Stroke (countIn store) (edgesBefore store i))) bytes-split ∙ drop-at (bytesOf front) (b ++ back) _ e)
         ∙ take-at b back (edgeBytes * edgesIn store i) body-long

@@ -11,15 +11,16 @@ use lib.ListN.{length, getD, take, drop}
 use lib.Seq.{length-take-le}
 use borrow.Author.Tests.{eq-eqb, eqb-true, eqb-false}
 use Rattle.runs.specs.Runs.{spread}
-use Rattle.paths.specs.Paths.{bodiesOf, joined, edgesOf}
 use Rattle.contacts.specs.declared.Vertex.{Vertex}
-use Rattle.outline.specs.Layout.{lengthOf}
+use Rattle.outline.specs.Layout.{kindWord, frontBytes, lengthOf}
+use Rattle.outline.specs.declared.Form.{Form}
+use Rattle.outline.specs.declared.Form.the-variants.{Stroke, Kerb}
 use Rattle.words.specs.Words.{fourBytes, bytesOf, wordsIn, wordAt}
-use Rattle.outline.specs.Outlines.{headerOf, tableOf, bodyWords, wordsWith, outlineWords, outlineBytes}
-use Rattle.outline.specs.Stores.{editionIn, kindIn, gradeIn, countIn, lengthIn, pathIn, dueIn, sameBytes, soundOf, firstDiffering, differingIn}
+use Rattle.outline.specs.Outlines.{styleWords, headerOf, bodyWords, partsWords, tableFor, edgesFor, outlineWords, outlineBytes}
+use Rattle.outline.specs.Stores.{editionIn, kindIn, formIn, gradeIn, countIn, lengthIn, pathIn, dueIn, sameBytes, soundOf, firstDiffering, differingIn}
 use Rattle.outline.specs.Theorems.{Bytes, DifferingInside}
 use Rattle.words.proofs.Bytes.{four-back}
-use Rattle.outline.proofs.ReadBack.{path-count-in, outline-length, edges-few}
+use Rattle.outline.proofs.ReadBack.{path-count-in, outline-length, few-edges}
 
 -- ---- lists that are not the same differ first at a place inside both, where they are of one length
 
@@ -122,10 +123,10 @@ four-long w = refl
 abbrev Told : List ℕ → List ℕ → Type 0
 Told a d = (firstDiffering a d < length a) × (firstDiffering a d < length d) × ((length a ≡ length d → ⊥) → (16 ≤ firstDiffering a d) × (firstDiffering a d < 20))
 
--- two outlines of n vertices with m and m′ edges that begin with the same sixteen bytes
+-- two outlines with m and m′ edges that begin with the same sixteen bytes, and have as many bytes besides their edges
 module _ (a d p x y : List ℕ) (n m m′ : ℕ)
     (ea : a ≡ p ++ (fourBytes m ++ x)) (ed : d ≡ p ++ (fourBytes m′ ++ y)) (lp : length p ≡ 16)
-    (la : length a ≡ lengthOf n m) (ld : length d ≡ lengthOf n m′)
+    (ln : 20 ≤ n) (la : length a ≡ n + 16 * m) (ld : length d ≡ n + 16 * m′)
     (hm : m < 2 ^ 32) (hm′ : m′ < 2 ^ 32) (f : sameBytes a d ≡ false) where
   told : Told a d
   told = go (eqb m m′) refl
@@ -142,39 +143,50 @@ module _ (a d p x y : List ℕ) (n m m′ : ℕ)
           (omega arith, omega arith, λ u. (omega arith, omega arith))
 
 -- a header's first four words
-firstOf : ℕ → ℕ → List ℕ
-firstOf g n = bytesOf (1 ∷ 0 ∷ g ∷ n ∷ [])
+firstOf : Form → ℕ → ℕ → List ℕ
+firstOf f g n = bytesOf (1 ∷ kindWord f ∷ g ∷ n ∷ [])
 
-first-long : (g n : ℕ) → length (firstOf g n) ≡ 16
+first-long : (f : Form) (g n : ℕ) → length (firstOf f g n) ≡ 16
 unfolding firstOf bytesOf spread fourBytes
-first-long g n = refl
+first-long f g n = refl
 
-cut-words : (ws : List ℕ) (g n m j : ℕ) → ws ≡ 1 ∷ 0 ∷ g ∷ n ∷ m ∷ drop 5 ws
-    → bytesOf (take (suc (suc (suc (suc (suc j))))) ws) ≡ firstOf g n ++ (fourBytes m ++ bytesOf (take j (drop 5 ws)))
+cut-words : (f : Form) (ws : List ℕ) (g n m j : ℕ) → ws ≡ 1 ∷ kindWord f ∷ g ∷ n ∷ m ∷ drop 5 ws
+    → bytesOf (take (suc (suc (suc (suc (suc j))))) ws) ≡ firstOf f g n ++ (fourBytes m ++ bytesOf (take j (drop 5 ws)))
 unfolding firstOf bytesOf spread fourBytes
-cut-words ws g n m j e = ap (λ (l : List ℕ). bytesOf (take (suc (suc (suc (suc (suc j))))) l)) e
+cut-words f ws g n m j e = ap (λ (l : List ℕ). bytesOf (take (suc (suc (suc (suc (suc j))))) l)) e
 
-due-words : (g : ℕ) (vs : List Vertex) → outlineBytes g vs ≡ firstOf g (length vs) ++ (fourBytes (length (edgesOf g vs)) ++ bytesOf (tableOf vs (bodiesOf g vs) ++ bodyWords (joined (bodiesOf g vs))))
-unfolding firstOf outlineBytes outlineWords wordsWith headerOf bytesOf spread fourBytes edgesOf
-due-words g vs = refl
+due-words : (f : Form) (g : ℕ) (vs : List Vertex)
+    → outlineBytes f g vs ≡ firstOf f g (length vs) ++ (fourBytes (length (edgesFor f g vs)) ++ bytesOf (styleWords f ++ (tableFor f g vs ++ bodyWords (edgesFor f g vs))))
+unfolding firstOf outlineBytes outlineWords partsWords headerOf bytesOf spread fourBytes
+due-words f g vs = refl
+
+front-least : (f : Form) (n : ℕ) → 20 ≤ frontBytes f n
+front-least Stroke n = omega arith
+front-least (Kerb y) n = omega arith
+
+-- an outline's length in words: the first five, and j more
+words-long : (f : Form) (n m : ℕ) → (j : ℕ) × (lengthOf f n m ≡ 4 * suc (suc (suc (suc (suc j)))))
+words-long Stroke n m = (1 + 4 * n + 4 * m, omega arith)
+words-long (Kerb y) n m = (6 + 2 * n + 4 * m, omega arith)
 
 pub differing-inside : DifferingInside
-unfolding edgesOf differingIn soundOf dueIn lengthIn editionIn kindIn gradeIn countIn pathIn wordAt
-differing-inside s h f =
+unfolding differingIn soundOf dueIn lengthIn editionIn kindIn gradeIn countIn wordAt
+differing-inside s h u =
     let ws = wordsIn s in
+    let f = formIn s in
     let g = gradeIn s in
     let n = countIn s in
     let m = wordAt s 4 in
     let vs = pathIn s in
-    let j : ℕ = 1 + 4 * n + 4 * m in
-    let e : lengthIn s ≡ 4 * suc (suc (suc (suc (suc j)))) = omega arith in
-    let enough : suc (suc (suc (suc (suc j)))) ≤ length ws = words-count s (suc (suc (suc (suc (suc j))))) (omega (arith, h .long)) in
-    let head : ws ≡ 1 ∷ 0 ∷ g ∷ n ∷ m ∷ drop 5 ws = rw (h .edition, h .kind) at (five ws (omega arith)) in
+    let w = words-long f n m in
+    let j = w .0 in
+    let enough : suc (suc (suc (suc (suc j)))) ≤ length ws = words-count s (suc (suc (suc (suc (suc j))))) (omega (arith, w .1, h .long)) in
+    let head : ws ≡ 1 ∷ kindWord f ∷ g ∷ n ∷ m ∷ drop 5 ws = rw (h .edition, h .kind) at (five ws (omega arith)) in
     let few : length vs ≡ n = path-count-in s in
-    let ea : take (lengthIn s) s ≡ firstOf g n ++ (fourBytes m ++ bytesOf (take j (drop 5 ws))) =
-    ap (λ (i : ℕ). take i s) e ∙ words-again (suc (suc (suc (suc (suc j))))) s (h .bytes) (omega (arith, h .long)) ∙ cut-words ws g n m j head in
-    let ed = rw few at (due-words g vs) in
+    let ea : take (lengthIn s) s ≡ firstOf f g n ++ (fourBytes m ++ bytesOf (take j (drop 5 ws))) =
+    ap (λ (i : ℕ). take i s) (w .1) ∙ words-again (suc (suc (suc (suc (suc j))))) s (h .bytes) (omega (arith, w .1, h .long)) ∙ cut-words f ws g n m j head in
+    let ed = rw few at (due-words f g vs) in
     let la : length (take (lengthIn s) s) ≡ lengthIn s = length-take-le (lengthIn s) s (h .long) in
-    let ld : length (dueIn s) ≡ lengthOf n (length (edgesOf g vs)) = rw few at (outline-length g vs) in
-    let r = told (take (lengthIn s) s) (dueIn s) (firstOf g n) _ _ n m (length (edgesOf g vs)) ea ed (first-long g n) la ld (word-small s 4 (h .bytes)) (edges-few g vs (omega (arith, h .count))) f in
+    let ld : length (dueIn s) ≡ lengthOf f n (length (edgesFor f g vs)) = rw few at (outline-length f g vs) in
+    let r = told (take (lengthIn s) s) (dueIn s) (firstOf f g n) _ _ (frontBytes f n) m (length (edgesFor f g vs)) ea ed (first-long f g n) (front-least f n) la ld (word-small s 4 (h .bytes)) (few-edges f g vs (omega (arith, h .count))) u in
     rw la at r

@@ -1,4 +1,5 @@
 -- The crate's own laws.
+pub mod FormLengths
 pub mod ReadBack
 pub mod Differing
 pub mod Parts

@@ -1,5 +1,5 @@
 -- An outline's words part by part: numbers, a table entry by entry, bodies edge by edge. Assumes nothing.
-use mathlib.Core.Path.{_≡_, refl, ap, _∙_}
+use mathlib.Core.Path.{_≡_, refl, sym, ap, _∙_}
 use mathlib.Core.List.{List, [], _∷_, _++_}
 use Prim.Native.Nat.{ℕ, _+_, _*_, _^_, _≤_, _<_}
 use native.Mathlib.Omega.{arith}
@@ -11,7 +11,7 @@ use mir.Syntax.{w64}
 use Rattle.whole.specs.Sizes.{Size}
 use Rattle.whole.proofs.Sizes.{size-fits}
 use Rattle.runs.specs.Runs.{spread, Runs, Room}
-use Rattle.runs.proofs.Laws.{spread-append, runs-as, runs-then}
+use Rattle.runs.proofs.Laws.{spread-append, runs-none, runs-as, runs-then}
 use Rattle.plane.proofs.Products.{bits, back, size-back}
 use Rattle.plane.specs.declared.Vector.{Vector}
 use Rattle.turning.specs.Edges.{edgeNumbers}
@@ -19,15 +19,18 @@ use Rattle.turning.specs.Bounds.{Radius}
 use Rattle.turning.specs.declared.Edge.{Edge}
 use Rattle.contacts.specs.Bounds.{Inside}
 use Rattle.variable_stroke.specs.Chains.{emittedOf, nextOf, startOf, closeOf}
-use Rattle.paths.specs.Paths.{none, bodiesFrom, bodiesAt, bodiesOf, edgesOf, joined}
+use Rattle.paths.specs.Paths.{none, bodiesFrom, bodiesAt, joined}
 use Rattle.contacts.specs.declared.Vertex.{Vertex}
 use Rattle.variable_stroke.specs.declared.Walk.{Walk}
 use Rattle.paths.proofs.PathWalk.{edges-none, edges-start, edges-step, edges-end}
-use Rattle.outline.specs.Layout.{entryBytes, edgeBytes}
+use Rattle.outline.specs.Layout.{kindWord, entryWords, countWords, headerBytes, edgeBytes}
+use Rattle.outline.specs.declared.Form.{Form}
+use Rattle.outline.specs.declared.Form.the-variants.{Stroke, Kerb}
+use Rattle.kerb.specs.declared.Style.{Style}
 use Rattle.words.specs.Words.{wordOf, wordsOf, fourBytes}
-use Rattle.outline.specs.Outlines.{headerOf, entryOf, tableOf, bodyWords}
+use Rattle.outline.specs.Outlines.{joinWord, closedWord, styleWords, headerOf, entryOf, tableOf, pointWords, bodyWords, tableFor}
 use Rattle.outline.specs.Parts.{tableFrom, wordsFrom}
-use Rattle.outline.proofs.ReadBack.{bodies-count, table-length, numbers-length}
+use Rattle.outline.proofs.ReadBack.{header-length, table-length, numbers-length}
 use Rattle.words.proofs.NumberRuns.{words-append, four-each}
 
 -- ---- the header and an entry, word by word
@@ -36,11 +39,17 @@ pub word-end : {S : Type 0} {f : S → ℕ → ℕ → S} {s s′ : S} {a b w : 
 unfolding spread fourBytes
 word-end p = p .pos
 
-pub header-run : {S : Type 0} {f : S → ℕ → ℕ → S} {s₀ s₁ s₂ s₃ s₄ s₅ : S} {at a b c d e g n m : ℕ}
-    → Runs f fourBytes s₀ at (1 ∷ []) s₁ a → Runs f fourBytes s₁ a (0 ∷ []) s₂ b → Runs f fourBytes s₂ b (g ∷ []) s₃ c → Runs f fourBytes s₃ c (n ∷ []) s₄ d → Runs f fourBytes s₄ d (m ∷ []) s₅ e
-    → Runs f fourBytes s₀ at (headerOf g n m) s₅ e
+-- the words that the header of a form has after the edge count come last
+pub header-run : {S : Type 0} {f : S → ℕ → ℕ → S} {s₀ s₁ s₂ s₃ s₄ s₅ s₆ : S} {at a b c d e z g n m : ℕ} (o : Form)
+    → Runs f fourBytes s₀ at (1 ∷ []) s₁ a → Runs f fourBytes s₁ a (kindWord o ∷ []) s₂ b → Runs f fourBytes s₂ b (g ∷ []) s₃ c → Runs f fourBytes s₃ c (n ∷ []) s₄ d → Runs f fourBytes s₄ d (m ∷ []) s₅ e
+    → Runs f fourBytes s₅ e (styleWords o) s₆ z → Runs f fourBytes s₀ at (headerOf o g n m) s₆ z
 unfolding headerOf
-header-run o p q r s = runs-then o (runs-then p (runs-then q (runs-then r s)))
+header-run o p q r s t u = runs-then p (runs-then q (runs-then r (runs-then s (runs-then t u))))
+
+-- of a stroke there are none
+pub stroke-style : {S : Type 0} {f : S → ℕ → ℕ → S} {s : S} {a : ℕ} → Runs f fourBytes s a (styleWords Stroke) s a
+unfolding styleWords
+stroke-style = runs-none
 
 pub entry-room : {at : ℕ} (v : Vertex) (count : ℕ) → Room fourBytes at (entryOf v count) → at + 16 < 2 ^ 64
 unfolding entryOf spread fourBytes
@@ -54,7 +63,7 @@ room-entry v count h = record { fits = h }
 pub coordinate-fits : {z : ℤ} → Size (2 ^ 28) z → Size (2 ^ 31) (bits z)
 coordinate-fits h = size-back (size-fits (2 ^ 28) w64 _ h tt) (record { size = omega (arith, h .size) })
 
-coordinate-word : {z : ℤ} {w : ℕ} → Size (2 ^ 28) z → w ≡ wordOf (bits z) → w ≡ wordOf z
+pub coordinate-word : {z : ℤ} {w : ℕ} → Size (2 ^ 28) z → w ≡ wordOf (bits z) → w ≡ wordOf z
 coordinate-word h e = e ∙ ap wordOf (back (size-fits (2 ^ 28) w64 _ h tt))
 
 pub radius-size : {z : ℤ} → Radius z → Size (2 ^ 28) z
@@ -68,6 +77,23 @@ pub entry-run : {S : Type 0} {f : S → ℕ → ℕ → S} {s₀ s₁ s₂ s₃ 
 unfolding entryOf
 entry-run v count h ex ey er p q s t =
     runs-as (rw (← coordinate-word (h .x) ex, ← coordinate-word (h .y) ey, ← coordinate-word (radius-size (h .radius)) er)) (runs-then p (runs-then q (runs-then s t)))
+
+-- a style's three words, and a point's two
+pub style-run : {S : Type 0} {f : S → ℕ → ℕ → S} {s₀ s₁ s₂ s₃ : S} {at a b c r j k : ℕ} (y : Style) → Radius (y .radius)
+    → r ≡ wordOf (bits (y .radius)) → j ≡ joinWord (y .join) → k ≡ closedWord (y .closed)
+    → Runs f fourBytes s₀ at (r ∷ []) s₁ a → Runs f fourBytes s₁ a (j ∷ []) s₂ b → Runs f fourBytes s₂ b (k ∷ []) s₃ c → Runs f fourBytes s₀ at (styleWords (Kerb y)) s₃ c
+unfolding styleWords
+style-run y h er ej ek p q t =
+    let e = coordinate-word (radius-size h) er in
+    runs-as (λ i. sym e i ∷ sym ej i ∷ sym ek i ∷ []) (runs-then p (runs-then q t))
+
+pub point-run : {S : Type 0} {f : S → ℕ → ℕ → S} {s₀ s₁ s₂ : S} {at a b x y : ℕ} (v : Vertex) → Inside v → x ≡ wordOf (bits (v .x)) → y ≡ wordOf (bits (v .y))
+    → Runs f fourBytes s₀ at (x ∷ []) s₁ a → Runs f fourBytes s₁ a (y ∷ []) s₂ b → Runs f fourBytes s₀ at (pointWords v) s₂ b
+unfolding pointWords
+point-run v h ex ey p q =
+    let e = coordinate-word (h .x) ex in
+    let d = coordinate-word (h .y) ey in
+    runs-as (λ i. sym e i ∷ sym d i ∷ []) (runs-then p q)
 
 -- ---- bodies, edge by edge
 
@@ -120,8 +146,11 @@ module _ (t : Vector) (vs : List Vertex) where
 
 -- ---- how long the parts are, in bytes
 
-pub table-bytes : (g : ℕ) (vs : List Vertex) → length (spread fourBytes (tableOf vs (bodiesOf g vs))) ≡ entryBytes * length vs + 4
-table-bytes g vs = omega (arith, four-each (tableOf vs (bodiesOf g vs)), table-length vs (bodiesOf g vs) (bodies-count g vs))
+pub header-bytes : (f : Form) (g n m : ℕ) → length (spread fourBytes (headerOf f g n m)) ≡ headerBytes f
+header-bytes f g n m = omega (arith, four-each (headerOf f g n m), header-length f g n m)
 
-pub bodies-bytes : (g : ℕ) (vs : List Vertex) → length (spread fourBytes (bodyWords (edgesOf g vs))) ≡ edgeBytes * length (edgesOf g vs)
-bodies-bytes g vs = omega (arith, four-each (bodyWords (edgesOf g vs)), numbers-length (edgesOf g vs))
+pub table-bytes : (f : Form) (g : ℕ) (vs : List Vertex) → length (spread fourBytes (tableFor f g vs)) ≡ 4 * (entryWords f * length vs + countWords f)
+table-bytes f g vs = omega (arith, four-each (tableFor f g vs), table-length f g vs)
+
+pub bodies-bytes : (es : List Edge) → length (spread fourBytes (bodyWords es)) ≡ edgeBytes * length es
+bodies-bytes es = omega (arith, four-each (bodyWords es), numbers-length es)

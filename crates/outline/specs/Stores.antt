@@ -1,14 +1,17 @@
--- Document 01, "The kept outline": what stands in a store, and whether it is sound.
+-- Document 01, "The kept outline", and document 02, request 3: what stands in a store, and whether it is sound.
 use mathlib.Core.Bool.{Bool, true, false}
 use mathlib.Core.List.{List, [], _∷_}
 use Prim.Native.Nat.{ℕ, zero, suc, _+_, _*_}
 use lib.Dec.{eqb, ltb}
-use lib.IntN.{pos}
+use lib.IntN.{ℤ, pos}
 use lib.ListN.{getD, take, drop}
 use Rattle.turning.specs.declared.Edge.{Edge}
 use Rattle.paths.specs.Paths.{bodiesOf}
 use Rattle.contacts.specs.declared.Vertex.{Vertex}
-use Rattle.outline.specs.Layout.{headerWords, entryWords, entryAt, edgeBytes, frontBytes, lengthOf}
+use Rattle.kerb.specs.Styles.{styleOf}
+use Rattle.outline.specs.Layout.{kerbKind, headerWords, entryWords, entryAt, edgeBytes, frontBytes, lengthOf}
+use Rattle.outline.specs.declared.Form.{Form}
+use Rattle.outline.specs.declared.Form.the-variants.{Stroke, Kerb}
 use Rattle.words.specs.Words.{numberOf, wordsIn, wordAt}
 use Rattle.outline.specs.Outlines.{outlineBytes}
 
@@ -25,23 +28,32 @@ gradeIn store = wordAt store 2
 unfoldable pub countIn : List ℕ → ℕ
 countIn store = wordAt store 3
 
--- Length 24 + 16n + 16m bytes.
-unfoldable pub lengthIn : List ℕ → ℕ
-lengthIn store = lengthOf (countIn store) (wordAt store 4)
+-- Kind 1 has radius, join and closed after them.
+unfoldable pub formIn : List ℕ → Form
+formIn store = elim (eqb (kindIn store) kerbKind) [ true ↦ Kerb (styleOf (wordAt store 5) (wordAt store 6) (wordAt store 7)) | false ↦ Stroke ]
 
--- Document 01, "The kept outline". Per vertex: x, y, radius and a count; the n vertices of a table. A word that is missing is 0.
-unfoldable pub entriesIn : ℕ → List ℕ → List Vertex
-entriesIn zero ws = []
-entriesIn (suc n) ws = record { x = numberOf (getD ws 0 0); y = numberOf (getD ws 1 0); radius = pos (getD ws 2 0) } ∷ entriesIn n (drop entryWords ws)
+-- Length 24 + 16n + 16m bytes for kind 0, 44 + 8n + 16m for kind 1.
+unfoldable pub lengthIn : List ℕ → ℕ
+lengthIn store = lengthOf (formIn store) (countIn store) (wordAt store 4)
+
+-- Per vertex: x, y, radius and a count; of kind 1 x and y, and every vertex has the style's radius. A word that is missing is 0.
+unfoldable pub radiusIn : Form → List ℕ → ℤ
+radiusIn Stroke ws = pos (getD ws 2 0)
+radiusIn (Kerb y) ws = y .radius
+
+-- The n vertices of a table.
+unfoldable pub entriesIn : Form → ℕ → List ℕ → List Vertex
+entriesIn f zero ws = []
+entriesIn f (suc n) ws = record { x = numberOf (getD ws 0 0); y = numberOf (getD ws 1 0); radius = radiusIn f ws } ∷ entriesIn f n (drop (entryWords f) ws)
 
 unfoldable pub pathIn : List ℕ → List Vertex
-pathIn store = entriesIn (countIn store) (drop headerWords (wordsIn store))
+pathIn store = entriesIn (formIn store) (countIn store) (drop (headerWords (formIn store)) (wordsIn store))
 
 -- What its own vertices and grade give.
 unfoldable pub dueIn : List ℕ → List ℕ
-dueIn store = outlineBytes (gradeIn store) (pathIn store)
+dueIn store = outlineBytes (formIn store) (gradeIn store) (pathIn store)
 
--- the bodies of the path that a store keeps
+-- the bodies of the path that a store of kind 0 keeps
 unfoldable pub bodiesIn : List ℕ → List (List Edge)
 bodiesIn store = bodiesOf (gradeIn store) (pathIn store)
 
@@ -67,7 +79,7 @@ differingIn store = firstDiffering (take (lengthIn store) store) (dueIn store)
 
 -- How many edges the table says that body i has: a word of its vertex's entry, and past the entries the word of the closing body, which is body n.
 unfoldable pub edgesIn : List ℕ → ℕ → ℕ
-edgesIn store i = elim (ltb i (countIn store)) [ true ↦ wordAt store (entryAt i + 3) | false ↦ wordAt store (entryAt (countIn store)) ]
+edgesIn store i = elim (ltb i (countIn store)) [ true ↦ wordAt store (entryAt Stroke i + 3) | false ↦ wordAt store (entryAt Stroke (countIn store)) ]
 
 -- and how many all the bodies before it have
 unfoldable pub edgesBefore : List ℕ → ℕ → ℕ
@@ -76,4 +88,4 @@ edgesBefore store (suc i) = edgesBefore store i + edgesIn store i
 
 -- The bytes of body i as the table marks them off.
 unfoldable pub bodyBytesIn : List ℕ → ℕ → List ℕ
-bodyBytesIn store i = take (edgeBytes * edgesIn store i) (drop (frontBytes (countIn store) + edgeBytes * edgesBefore store i) store)
+bodyBytesIn store i = take (edgeBytes * edgesIn store i) (drop (frontBytes Stroke (countIn store) + edgeBytes * edgesBefore store i) store)

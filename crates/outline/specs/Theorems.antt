@@ -3,29 +3,52 @@ use mathlib.Core.Path.{_≡_}
 use mathlib.Core.Bool.{true, false}
 use mathlib.Core.List.{List, [], _∷_, _++_}
 use Prim.Native.Nat.{ℕ, _+_, _≤_, _<_}
+use lib.IntN.{ℤ}
 use lib.ListN.{length, getD}
-use Rattle.paths.specs.Paths.{edgesOf, Within}
+use Rattle.paths.specs.Paths.{Within}
 use Rattle.contacts.specs.declared.Vertex.{Vertex}
-use Rattle.outline.specs.Layout.{firstEdition, strokeKind, lengthOf}
+use Rattle.turning.specs.Bounds.{Radius}
+use Rattle.outline.specs.Layout.{firstEdition, kindWord, lengthOf}
+use Rattle.outline.specs.declared.Form.{Form}
+use Rattle.outline.specs.declared.Form.the-variants.{Stroke, Kerb}
 use Rattle.words.specs.Words.{bytesOf}
-use Rattle.outline.specs.Outlines.{bodyWords, outlineBytes}
-use Rattle.outline.specs.Stores.{editionIn, kindIn, gradeIn, countIn, lengthIn, pathIn, dueIn, bodiesIn, soundOf, differingIn, bodyBytesIn}
+use Rattle.outline.specs.Outlines.{bodyWords, edgesFor, outlineBytes}
+use Rattle.outline.specs.Stores.{editionIn, kindIn, formIn, gradeIn, countIn, lengthIn, pathIn, dueIn, bodiesIn, soundOf, differingIn, bodyBytesIn}
 
--- An outline has 24 + 16n + 16m bytes.
+-- every vertex has the radius r
+abbrev pub AllRadius : ℤ → List Vertex → Type 0
+AllRadius r [] = Unit {0}
+AllRadius r (v ∷ vs) = (v .radius ≡ r) × AllRadius r vs
+
+-- a form within the limits, and a path that suits it: of a kerb the radius is within the limits, and every vertex has it
+abbrev pub FormWithin : Form → Type 0
+FormWithin Stroke = Unit {0}
+FormWithin (Kerb y) = Radius (y .radius)
+
+abbrev pub Suits : Form → List Vertex → Type 0
+Suits Stroke vs = Unit {0}
+Suits (Kerb y) vs = FormWithin (Kerb y) × AllRadius (y .radius) vs
+
+-- a form, a grade and a path within the limits
+abbrev pub Formed : Form → ℕ → List Vertex → Type 0
+Formed f g vs = Within g vs × Suits f vs
+
+-- An outline has 24 + 16n + 16m bytes, of a kerb 44 + 8n + 16m.
 abbrev pub OutlineLength : Type 0
-OutlineLength = (g : ℕ) (vs : List Vertex) → length (outlineBytes g vs) ≡ lengthOf (length vs) (length (edgesOf g vs))
+OutlineLength = (f : Form) (g : ℕ) (vs : List Vertex) → length (outlineBytes f g vs) ≡ lengthOf f (length vs) (length (edgesFor f g vs))
 
--- An outline, with any bytes after it, is sound and says its own length, grade and path.
+-- An outline, with any bytes after it, is sound and says its own length, form, grade and path.
 abbrev pub KeptIsSound : Type 0
-KeptIsSound = (g : ℕ) (vs : List Vertex) (rest : List ℕ) → Within g vs
-    → (gradeIn (outlineBytes g vs ++ rest) ≡ g)
-    × (pathIn (outlineBytes g vs ++ rest) ≡ vs)
-    × (lengthIn (outlineBytes g vs ++ rest) ≡ length (outlineBytes g vs))
-    × (soundOf (outlineBytes g vs ++ rest) ≡ true)
+KeptIsSound = (f : Form) (g : ℕ) (vs : List Vertex) (rest : List ℕ) → Formed f g vs
+    → (formIn (outlineBytes f g vs ++ rest) ≡ f)
+    × (gradeIn (outlineBytes f g vs ++ rest) ≡ g)
+    × (pathIn (outlineBytes f g vs ++ rest) ≡ vs)
+    × (lengthIn (outlineBytes f g vs ++ rest) ≡ length (outlineBytes f g vs))
+    × (soundOf (outlineBytes f g vs ++ rest) ≡ true)
 
--- Two paths and grades with the same outline are the same.
+-- Two forms, grades and paths with the same outline are the same.
 abbrev pub OneOutline : Type 0
-OneOutline = (g h : ℕ) (vs us : List Vertex) → Within g vs → Within h us → outlineBytes g vs ≡ outlineBytes h us → (g ≡ h) × (vs ≡ us)
+OneOutline = (f e : Form) (g h : ℕ) (vs us : List Vertex) → Formed f g vs → Formed e h us → outlineBytes f g vs ≡ outlineBytes e h us → (f ≡ e) × (g ≡ h) × (vs ≡ us)
 
 -- a store of bytes that passes every test before that of soundness
 abbrev pub Bytes : List ℕ → Type 0
@@ -35,7 +58,7 @@ Bytes (b ∷ l) = (b < 256) × Bytes l
 pub record Headed (s : List ℕ) : Type 0 where
   pub bytes : Bytes s
   pub edition : editionIn s ≡ firstEdition
-  pub kind : kindIn s ≡ strokeKind
+  pub kind : kindIn s ≡ kindWord (formIn s)
   pub count : countIn s ≤ 4096
   pub long : lengthIn s ≤ length s
 
@@ -47,6 +70,6 @@ DifferingInside = (s : List ℕ) → Headed s → soundOf s ≡ false
     × (differingIn s < length (dueIn s))
     × ((lengthIn s ≡ length (dueIn s) → ⊥) → (16 ≤ differingIn s) × (differingIn s < 20))
 
--- In a sound store the bytes that its own counts mark off as body i are those of body i of its path; the closing body is body n.
+-- In a sound store of kind 0 the bytes that its own counts mark off as body i are those of body i of its path; the closing body is body n.
 abbrev pub BodyBytes : Type 0
-BodyBytes = (s : List ℕ) (i : ℕ) → Within (gradeIn s) (pathIn s) → soundOf s ≡ true → i ≤ length (pathIn s) → bodyBytesIn s i ≡ bytesOf (bodyWords (getD (bodiesIn s) i []))
+BodyBytes = (s : List ℕ) (i : ℕ) → formIn s ≡ Stroke → Within (gradeIn s) (pathIn s) → soundOf s ≡ true → i ≤ length (pathIn s) → bodyBytesIn s i ≡ bytesOf (bodyWords (getD (bodiesIn s) i []))

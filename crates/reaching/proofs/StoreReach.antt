@@ -14,12 +14,16 @@ use Rattle.replies.specs.Replies.{Reply, firstRow, indexRow}
 use Rattle.replies.specs.Refusals.{refusalOf}
 use Rattle.checking.specs.StoreChecks.{StoreSays}
 use Rattle.replies.specs.declared.Refusal.{Refusal}
-use Rattle.replies.specs.declared.Refusal.the-variants.{NoVertex}
-use Rattle.checking.specs.declared.Header.{Header}
-use Rattle.checking.specs.declared.Checked.{Checked}
-use Rattle.checking.specs.declared.Checked.the-variants as checked
-use Rattle.checking.proofs.Shown.{path-back}
+use Rattle.replies.specs.declared.Refusal.the-variants.{NoVertex, OtherKind}
+use Rattle.heading.specs.declared.Header.{Header}
+use Rattle.heading.specs.declared.Checked.{Checked}
+use Rattle.heading.specs.declared.Checked.the-variants as checked
+use Rattle.heading.proofs.Shown.{path-back}
 use Rattle.checking.proofs.StoreReads.{store-refuses, store-passes, header-count}
+use Rattle.checking.proofs.OtherKinds.{stroke-passes, kerb-refused}
+use Rattle.kerb.specs.declared.Style.{Style}
+use Rattle.outline.specs.declared.Form.the-variants.{Stroke, Kerb}
+use Rattle.editing.specs.Known.{Passed}
 use Rattle.editing.proofs.KnownStore.{known}
 use Rattle.editing.proofs.NewVertex.{known-few}
 use Rattle.reaching.specs.Replies.{reachedOf, reachReply, replyOfReached, Reaches}
@@ -55,17 +59,22 @@ pub reach-refused : {s : List ℕ} {p : List ℤ} {c : Checked} {r : Refusal} (k
 unfolding replyOfReached reachReply
 reach-refused k e a = record { reply = store-refuses _ _ a e }
 
-module _ {s : List ℕ} {p : List ℤ} {c : Checked} {h : Header} (e : c ≡ checked.Holds h) (a : StoreSays s p c) where
-  -- the store's path is what stands at the front of the numbers
-  path-shown : pathOf (take (3 * h .n) p) ≡ pathIn s
-  path-shown = ap pathOf (a .path h e) ∙ path-back (pathIn s)
+module _ {s : List ℕ} {p : List ℤ} {h : Header} (a : Passed s p h) where
+  pub reach-other : {y : Style} (k : ℕ) → h .form ≡ Kerb y → Reaches s k (Refused (OtherKind 1))
+  unfolding replyOfReached reachReply refusalOf
+  reach-other k e = record { reply = kerb-refused (a .sound .head) _ _ e ∙ sym (store-passes _ _ (a .sound)) }
 
-  path-counted : h .n ≡ length (pathIn s)
-  path-counted = header-count (a .sound h e .head)
+  module _ (e : h .form ≡ Stroke) where
+    -- the store's path is what stands at the front of the numbers
+    path-shown : pathOf (take (3 * h .n) p) ≡ pathIn s
+    path-shown = ap pathOf (known a e .path) ∙ path-back (pathIn s)
 
-  pub path-held : (3 * h .n ≤ length p) × (firstOutside (pathOf (take (3 * h .n) p)) ≡ h .n)
-  path-held = (known-few (known e a) .1, ap firstOutside path-shown ∙ a .sound h e .within .inside ∙ sym path-counted)
+    path-counted : h .n ≡ length (pathIn s)
+    path-counted = header-count (a .sound .head)
 
-  pub reach-passed : {r : Reached} (k : ℕ) → replyOfReached r ≡ firstRow (indexRow (h .n) k ∷ []) (0, reachedOf (pathOf (take (3 * h .n) p)) k) → Reaches s k r
-  unfolding reachReply
-  reach-passed k f = record { reply = rw (path-shown, path-counted) at f ∙ sym (store-passes _ _ (a .sound h e)) }
+    pub path-held : (3 * h .n ≤ length p) × (firstOutside (pathOf (take (3 * h .n) p)) ≡ h .n)
+    path-held = (known-few (known a e) .1, ap firstOutside path-shown ∙ a .sound .within .inside ∙ sym path-counted)
+
+    pub reach-passed : {r : Reached} (k : ℕ) → replyOfReached r ≡ firstRow (indexRow (h .n) k ∷ []) (0, reachedOf (pathOf (take (3 * h .n) p)) k) → Reaches s k r
+    unfolding reachReply
+    reach-passed k f = record { reply = rw (path-shown, path-counted) at f ∙ sym (store-passes _ _ (a .sound) ∙ stroke-passes (a .sound .head) _ _ e) }

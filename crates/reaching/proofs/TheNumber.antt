@@ -12,8 +12,12 @@ use Rattle.contacts.specs.declared.Vertex.{Vertex}
 use Rattle.outline.specs.Outlines.{outlineBytes}
 use Rattle.outline.specs.Stores.{pathIn}
 use Rattle.outline.proofs.ReadBack.{vertices-back}
+use Rattle.outline.specs.declared.Form.the-variants.{Stroke}
 use Rattle.replies.specs.Replies.{Reply, Row, firstRow, gradeRow, countRow, outsideRow, indexRow}
-use Rattle.checking.specs.StoreRows.{editionRow, kindRow, lengthRow, soundRow, storeRows}
+use Rattle.heading.specs.StoreRows.{editionRow, kindRow, shortRow, styleRowIn, lengthRow, soundRow, storeRows}
+use Rattle.replies.specs.StyleRows.{styleRow}
+use Rattle.checking.specs.OtherKind.{otherKindRow}
+use Rattle.checking.proofs.OtherKinds.{kept-stroke}
 use Rattle.checking.proofs.KeptStore.{store-none}
 use Rattle.replies.proofs.Rows.{first-skip, none-last, first-none}
 use Rattle.reaching.specs.Replies.{reachedOf, reachReply}
@@ -23,15 +27,16 @@ use Rattle.locality.proofs.FirstSettled.{reach-is-first}
 pub kept-is-reached : KeptIsReached
 unfolding reachReply indexRow firstRow
 kept-is-reached g vs rest k w h =
-    first-skip (storeRows (outlineBytes g vs ++ rest)) _ _ (store-none g vs rest w)
-    ∙ rw (vertices-back g vs rest w, lt-leb (length vs) k h, firstRow, vertices-back g vs rest w)
+    first-skip (storeRows (outlineBytes Stroke g vs ++ rest)) _ _ (store-none Stroke g vs rest (w, tt))
+    ∙ first-skip (otherKindRow (outlineBytes Stroke g vs ++ rest) ∷ []) (indexRow (length (pathIn (outlineBytes Stroke g vs ++ rest))) k ∷ []) (0, reachedOf (pathIn (outlineBytes Stroke g vs ++ rest)) k) (kept-stroke g vs rest w, tt)
+    ∙ rw (vertices-back Stroke g vs rest (w, tt), lt-leb (length vs) k h, firstRow, vertices-back Stroke g vs rest (w, tt))
 
 pub number-is : (s : List ℕ) (k j : ℕ) → reachReply s k ≡ (0, j) → j ≡ reachedOf (pathIn s) k
-unfolding reachReply storeRows editionRow kindRow gradeRow countRow lengthRow outsideRow soundRow indexRow firstRow
+unfolding reachReply storeRows editionRow kindRow shortRow gradeRow styleRowIn styleRow countRow lengthRow outsideRow soundRow otherKindRow indexRow firstRow
 number-is s k j e =
-    let rows : List Row = storeRows s ++ (indexRow (length (pathIn s)) k ∷ []) in
+    let rows : List Row = storeRows s ++ (otherKindRow s ∷ indexRow (length (pathIn s)) k ∷ []) in
     let last : Reply = (0, reachedOf (pathIn s) k) in
-    let none = first-none rows last (refl, (refl, (refl, (refl, (refl, (refl, (refl, (refl, tt)))))))) (ap (λ (r : Reply). r .0) e) in
+    let none = first-none rows last (refl, (refl, (refl, (refl, (refl, (refl, (refl, (refl, (refl, (refl, (refl, tt))))))))))) (ap (λ (r : Reply). r .0) e) in
     ap (λ (r : Reply). r .1) (sym e ∙ none-last rows last none)
 
 -- which is the lesser of the reach and the number of vertices

@@ -9,7 +9,8 @@ use Rattle.contacts.specs.declared.Vertex.{Vertex}
 use Rattle.locality.specs.Local.{reachOf}
 use Rattle.outline.specs.Stores.{pathIn}
 use Rattle.replies.specs.Replies.{Reply, firstRow, indexRow}
-use Rattle.checking.specs.StoreRows.{storeRows}
+use Rattle.heading.specs.StoreRows.{storeRows}
+use Rattle.checking.specs.OtherKind.{otherKindRow}
 use Rattle.replies.specs.Refusals.{refusalOf}
 use Rattle.reaching.specs.declared.Reached.{Reached}
 use Rattle.reaching.specs.declared.Reached.the-variants.{To, Refused}
@@ -18,9 +19,9 @@ use Rattle.reaching.specs.declared.Reached.the-variants.{To, Refused}
 unfoldable pub reachedOf : List Vertex → ℕ → ℕ
 reachedOf vs k = elim (ltb (reachOf vs k) (length vs)) [ true ↦ reachOf vs k | false ↦ length vs ]
 
--- 6, 7, 3, 2, 6, 4, 8 of the store, 9 of the index; else 0 with that number.
+-- The rows of the store, 12 of the kind, 9 of the index; else 0 with that number.
 unfoldable pub reachReply : List ℕ → ℕ → Reply
-reachReply s k = firstRow (storeRows s ++ (indexRow (length (pathIn s)) k ∷ [])) (0, reachedOf (pathIn s) k)
+reachReply s k = firstRow (storeRows s ++ (otherKindRow s ∷ indexRow (length (pathIn s)) k ∷ [])) (0, reachedOf (pathIn s) k)
 
 -- document 01's number and value for each case of the answer
 unfoldable pub replyOfReached : Reached → Reply

@@ -9,6 +9,7 @@ use Rattle.paths.specs.Paths.{Within}
 use Rattle.locality.specs.Local.{settledTo}
 use Rattle.outline.specs.Outlines.{outlineBytes}
 use Rattle.outline.specs.Stores.{pathIn}
+use Rattle.outline.specs.declared.Form.the-variants.{Stroke}
 use Rattle.reaching.specs.Replies.{reachedOf, reachReply, Reaches}
 use Rattle.reaching.specs.declared.Reached.{Reached}
 
@@ -19,7 +20,7 @@ OneReach = (s : List ℕ) (k : ℕ) (r q : Reached) → Reaches s k r → Reache
 -- Of an outline, whatever bytes stand after it, the call tells the reach of each vertex.
 abbrev pub KeptIsReached : Type 0
 KeptIsReached = (g : ℕ) (vs : List Vertex) (rest : List ℕ) (k : ℕ) → Within g vs → k < length vs
-    → reachReply (outlineBytes g vs ++ rest) k ≡ (0, reachedOf vs k)
+    → reachReply (outlineBytes Stroke g vs ++ rest) k ≡ (0, reachedOf vs k)
 
 -- The number j that the call gives is the first vertex at k + 2 or later that is reached by a drawn or broken step, as demand 3's is (`ReachIsFirst`,
 -- locality/specs/Local.antt); where it is the number of vertices, there is none.

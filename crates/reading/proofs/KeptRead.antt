@@ -3,24 +3,26 @@ use mathlib.Core.Path.{_≡_, _∙_}
 use mathlib.Core.List.{List, _++_}
 use Prim.Native.Nat.{ℕ, _*_, _≤_}
 use lib.ListN.{length}
-use Rattle.paths.specs.Paths.{Within}
 use Rattle.contacts.specs.declared.Vertex.{Vertex}
 use Rattle.outline.specs.Outlines.{outlineBytes}
+use Rattle.outline.specs.Theorems.{Formed}
+use Rattle.outline.specs.declared.Form.{Form}
+use Rattle.outline.proofs.ReadBack.{form-back, grade-back, vertices-back}
 use Rattle.replies.specs.Replies.{written}
-use Rattle.checking.specs.StoreRows.{storeRows}
-use Rattle.reading.specs.Reading.{readReply, readGrade, readOut, KeptIsRead}
-use Rattle.outline.proofs.ReadBack.{grade-back, vertices-back}
 use Rattle.replies.proofs.Rows.{first-skip, room-enough}
+use Rattle.heading.specs.Shows.{lentWidth}
+use Rattle.heading.specs.StoreRows.{storeRows}
 use Rattle.checking.proofs.KeptStore.{store-none}
+use Rattle.reading.specs.Reading.{readReply, readGrade, readForm, readOut, KeptIsRead}
 
-read-reply : (g : ℕ) (vs : List Vertex) (rest : List ℕ) (room : ℕ) → Within g vs → 3 * length vs ≤ room → readReply (outlineBytes g vs ++ rest) room ≡ (0, length vs)
+read-reply : (f : Form) (g : ℕ) (vs : List Vertex) (rest : List ℕ) (room : ℕ) → Formed f g vs → lentWidth f * length vs ≤ room → readReply (outlineBytes f g vs ++ rest) room ≡ (0, length vs)
 unfolding readReply
-read-reply g vs rest room h k =
-    first-skip (storeRows (outlineBytes g vs ++ rest)) _ _ (store-none g vs rest h)
-    ∙ rw (vertices-back g vs rest h) (room-enough (3 * length vs) room (length vs) (0, length vs) k)
+read-reply f g vs rest room h k =
+    first-skip (storeRows (outlineBytes f g vs ++ rest)) _ _ (store-none f g vs rest h)
+    ∙ rw (form-back f g vs rest h, vertices-back f g vs rest h) (room-enough (lentWidth f * length vs) room (length vs) (0, length vs) k)
 
 pub kept-is-read : KeptIsRead
-unfolding readGrade readOut written
-kept-is-read g vs rest room h k =
-    let e = read-reply g vs rest (length room) h k in
-    (e, rw (e, readGrade) (grade-back g vs rest h), rw (e, written, vertices-back g vs rest h))
+unfolding readGrade readForm readOut written
+kept-is-read f g vs rest room h k =
+    let e = read-reply f g vs rest (length room) h k in
+    (e, rw (e, readGrade) (grade-back f g vs rest h), rw (e, readForm) (form-back f g vs rest h), rw (e, written, form-back f g vs rest h, vertices-back f g vs rest h))

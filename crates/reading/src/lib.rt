@@ -1,17 +1,19 @@
 // read: the path of a sound outline into lent numbers.
-use checking::Checked;
-use checking::Header;
 use checking::check;
-use checking::show_path;
+use heading::Checked;
+use heading::Header;
+use heading::shows::show_path;
+use heading::shows::width;
+use outline::Form;
 use replies::Refusal;
 ghost use Prim.Native.Nat.{_≤_};
 ghost use lib.ListN.{length};
 ghost use Rattle.reading.specs.Reading.{Reads};
 ghost use Rattle.checking.specs.StoreChecks.{Sound};
 
-// What reading an outline came to: how many vertices and which grade, or why not.
+// What reading an outline came to: how many vertices, which grade and which form, or why not.
 pub enum Read {
-    Vertices(usize, u32),
+    Vertices(usize, u32, Form),
     Refused(Refusal),
 }
 
@@ -22,14 +24,16 @@ fn read_path(s: &[u8], h: Header, out: &mut [i32]) -> Read
 {
     let n = h.n;
     let grade = h.grade;
-    if out.len() < 3 * n {
+    let form = h.form;
+    let needed = width(form) * n;
+    if out.len() < needed {
         return Read::Refused(Refusal::NoRoom(n));
     }
-    show_path(s, n, out);
-    Read::Vertices(n, grade)
+    show_path(s, form, n, out);
+    Read::Vertices(n, grade, form)
 }
 
-// The path of a store, three numbers a vertex, into lent numbers; `path` and `own` are room to check it in.
+// The path of a store, three numbers a vertex, of a kerb two, into lent numbers; `path` and `own` are room to check it in.
 pub fn read_with(store: &[u8], out: &mut [i32], path: &mut [i32], own: &mut [i32]) -> Read
     requires { ⌜ (12288 ≤ length (now path)) × (36908 ≤ length (now own)) ⌝ }
     ensures { λ r. ⌜ Reads (now (store .entry)) (now (out .entry)) r (now (out .exit)) ⌝ }

@@ -45,7 +45,7 @@ pub fn of_kept(kept: Kept) -> Reply {
 // The reply of reading.
 pub fn of_read(read: Read) -> Reply {
     match read {
-        Read::Vertices(count, grade) => given(count, grade),
+        Read::Vertices(count, grade, _) => given(count, grade),
         Read::Refused(refusal) => of_refusal(refusal),
     }
 }

@@ -2,7 +2,9 @@
 use mathlib.Core.Path.{_≡_, sym, _∙_}
 use Prim.Native.Nat.{ℕ}
 use Rattle.replies.specs.Replies.{Reply as Answer}
-use Rattle.sehmelir.specs.Boundary.{Replies, OneDrawReply, OneDrawKerbReply, OneKeepReply, OneReadReply, OneReplaceReply, OneReachReply, OneTelling, OneImportReply, OneExportReply}
+use Rattle.sehmelir.specs.Boundary.{Replies, PathReplies, OneDrawReply, OneDrawKerbReply, OneKeepReply, OneKeepKerbReply, OneReadReply, OneReplaceReply, OneReachReply, OneTelling, OneImportReply, OneExportReply}
+use Rattle.outline.specs.declared.Form.{Form}
+use Rattle.sehmelir.specs.declared.Path.{Path}
 use Rattle.sehmelir.specs.declared.Reply.{Reply}
 
 pub one-reply : (t : Answer) (g : ℕ) (r q : Reply) → Replies r t g → Replies q t g → r ≡ q
@@ -18,8 +20,22 @@ one-draw-kerb-reply points g r j c out a b o p h k = (one-reply _ _ a b (h .repl
 pub one-keep-reply : OneKeepReply
 one-keep-reply path g out r q o p a b = (one-reply _ _ r q (a .replies) (b .replies), a .out ∙ sym (b .out))
 
+pub one-keep-kerb-reply : OneKeepKerbReply
+one-keep-kerb-reply points g r j c out a b o p h k = (one-reply _ _ a b (h .replies) (k .replies), h .out ∙ sym (k .out))
+
+one-path : (t : Answer) (g : ℕ) (f : Form) (r q : Path) → PathReplies r t g f → PathReplies q t g f → r ≡ q
+one-path t g f r q a b = λ i. record {
+  reply = (a .reply ∙ sym (b .reply)) i;
+  grade = (a .grade ∙ sym (b .grade)) i;
+  number = (a .number ∙ sym (b .number)) i;
+  kind = (a .kind ∙ sym (b .kind)) i;
+  radius = (a .radius ∙ sym (b .radius)) i;
+  join = (a .join ∙ sym (b .join)) i;
+  closed = (a .closed ∙ sym (b .closed)) i;
+}
+
 pub one-read-reply : OneReadReply
-one-read-reply s out r q o p a b = (one-reply _ _ r q (a .replies) (b .replies), a .out ∙ sym (b .out))
+one-read-reply s out r q o p a b = (one-path _ _ _ r q (a .replies) (b .replies), a .out ∙ sym (b .out))
 
 pub one-replace-reply : OneReplaceReply
 one-replace-reply s k v r q o p a b = (one-reply _ _ r q (a .replies) (b .replies), a .store ∙ sym (b .store))

@@ -13,7 +13,17 @@ use Rattle.editing.specs.declared.Replaced.{Replaced}
 use Rattle.oldest.specs.Taken.{reasonOf, wholeIn}
 use Rattle.oldest.specs.declared.Taken.{Taken as Answered}
 use Rattle.oldest.specs.declared.Taken.the-variants.{Whole}
-use Rattle.sehmelir.specs.Boundary.{Replies, ReplaceReplies, wholeOr0, Tells}
+use Rattle.turning.specs.Bounds.{Radius}
+use Rattle.plane.proofs.Products.{bits}
+use Rattle.kerb.specs.declared.Style.{Style}
+use Rattle.words.specs.Words.{wordOf}
+use Rattle.outline.specs.Outlines.{joinWord, closedWord}
+use Rattle.outline.specs.declared.Form.{Form}
+use Rattle.outline.specs.declared.Form.the-variants.{Stroke, Kerb}
+use Rattle.outline.proofs.Parts.{coordinate-word, radius-size}
+use Rattle.sehmelir.specs.declared.Path.{Path}
+use Rattle.sehmelir.specs.declared.FormNumbers.{FormNumbers}
+use Rattle.sehmelir.specs.Boundary.{radiusTold, joinTold, closedTold, FormTold, PathReplies, Replies, ReplaceReplies, wholeOr0, Tells}
 use Rattle.sehmelir.specs.declared.Reply.{Reply}
 use Rattle.sehmelir.specs.declared.Taken.{Taken}
 
@@ -34,6 +44,28 @@ pub replaced-told : {s s₁ : List ℕ} {k : ℕ} {v : Vertex} {a : Replaced} {p
 replaced-told {s} {s₁} {k} {v} {a} {p} ex ey er h q =
     let r : ReplaceReplies s k v p s₁ = record { replies = told-as (h .reply) q; store = h .store } in
     rw (ex, ey, er) at r
+
+-- ---- a form in numbers
+
+pub style-told : {r : FormNumbers} (y : Style) → Radius (y .radius) → r .kind ≡ 1 → r .radius ≡ wordOf (bits (y .radius)) → r .join ≡ joinWord (y .join) → r .closed ≡ closedWord (y .closed) → FormTold r (Kerb y)
+unfolding radiusTold joinTold closedTold
+style-told y h ek er ej ec = record { kind = ek; radius = coordinate-word (radius-size h) er; join = ej; closed = ec }
+
+pub stroke-told : {r : FormNumbers} {f : Form} → f ≡ Stroke → r .kind ≡ 0 → r .radius ≡ 0 → r .join ≡ 0 → r .closed ≡ 0 → FormTold r f
+unfolding radiusTold joinTold closedTold
+stroke-told e ek er ej ec = rw e (record { kind = ek; radius = er; join = ej; closed = ec })
+
+pub kerb-told : {r : FormNumbers} {f : Form} {y : Style} → f ≡ Kerb y → FormTold r (Kerb y) → FormTold r f
+kerb-told e h = rw e h
+
+pub path-as : {p : Path} {s t : Answer} {g h : ℕ} {e f : Form} → s ≡ t → g ≡ h → e ≡ f → PathReplies p s g e → PathReplies p t h f
+path-as a b c r = rw (a, b, c) at r
+
+pub path-told : {p : Path} {a : Reply} {n : FormNumbers} {t : Answer} {g : ℕ} {e f : Form} → Replies a t g → FormTold n e → e ≡ f
+    → p .reply ≡ a .reply → p .number ≡ a .number → p .grade ≡ a .grade → p .kind ≡ n .kind → p .radius ≡ n .radius → p .join ≡ n .join → p .closed ≡ n .closed → PathReplies p t g f
+path-told r n c er en eg ek ed ej ec =
+    let m = rw c at n in
+    record { reply = er ∙ r .reply; number = en ∙ r .number; grade = eg ∙ r .grade; kind = ek ∙ m .kind; radius = ed ∙ m .radius; join = ej ∙ m .join; closed = ec ∙ m .closed }
 
 -- ---- a float: its whole number, or a reason without one
 

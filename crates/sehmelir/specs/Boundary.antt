@@ -7,17 +7,25 @@ use lib.Ieee.{Float}
 use lib.IntN.{ℤ, pos}
 use lib.ListN.{length}
 use Rattle.contacts.specs.declared.Vertex.{Vertex}
+use Rattle.words.specs.Words.{wordOf}
+use Rattle.outline.specs.Layout.{kindWord}
+use Rattle.outline.specs.Outlines.{joinWord, closedWord}
+use Rattle.outline.specs.declared.Form.{Form}
+use Rattle.outline.specs.declared.Form.the-variants.{Stroke, Kerb}
 use Rattle.replies.specs.Replies.{Reply as Answer}
 use Rattle.drawing.specs.Drawing.{drawReply, drawOut}
 use Rattle.kerb_drawing.specs.KerbDrawing.{drawKerbReply, drawKerbOut}
 use Rattle.keeping.specs.Keeping.{keepReply, keepOut}
-use Rattle.reading.specs.Reading.{readReply, readGrade, readOut}
+use Rattle.kerb_keeping.specs.KerbKeeping.{keepKerbReply, keepKerbOut}
+use Rattle.reading.specs.Reading.{readReply, readGrade, readForm, readOut}
 use Rattle.editing.specs.Replacing.{replaceReply, replaceOut}
 use Rattle.reaching.specs.Replies.{reachReply}
 use Rattle.oldest.specs.Taken.{wholeIn, reasonOf}
 use Rattle.oldest.specs.Calls.{importReply, importOut, exportReply, exportOut}
 use Rattle.oldest.specs.declared.Taken.{Taken as Answered}
 use Rattle.sehmelir.specs.declared.Reply.{Reply}
+use Rattle.sehmelir.specs.declared.Path.{Path}
+use Rattle.sehmelir.specs.declared.FormNumbers.{FormNumbers}
 use Rattle.sehmelir.specs.declared.Taken.{Taken}
 
 -- document 01's reply and number, and a grade beside them
@@ -41,9 +49,43 @@ pub record KeepReplies (path : List ℤ) (grade : ℕ) (out₀ : List ℕ) (r : 
   pub replies : Replies r (keepReply path grade (length out₀)) 0
   pub out : out₁ ≡ keepOut path grade out₀
 
--- read: reply, number, grade and every lent number afterwards
-pub record ReadReplies (store : List ℕ) (out₀ : List ℤ) (r : Reply) (out₁ : List ℤ) : Type 0 where
-  pub replies : Replies r (readReply store (length out₀)) (readGrade store (length out₀))
+-- Document 02, request 3, keeping a kerb: reply, number and every lent byte afterwards
+pub record KeepKerbReplies (points : List ℤ) (grade radius join closed : ℕ) (out₀ : List ℕ) (r : Reply) (out₁ : List ℕ) : Type 0 where
+  pub replies : Replies r (keepKerbReply points grade radius join closed (length out₀)) 0
+  pub out : out₁ ≡ keepKerbOut points grade radius join closed out₀
+
+-- Document 02, request 3: a form in numbers, the kind and a kerb's radius, join and closed
+unfoldable pub radiusTold : Form → ℕ
+radiusTold Stroke = 0
+radiusTold (Kerb y) = wordOf (y .radius)
+
+unfoldable pub joinTold : Form → ℕ
+joinTold Stroke = 0
+joinTold (Kerb y) = joinWord (y .join)
+
+unfoldable pub closedTold : Form → ℕ
+closedTold Stroke = 0
+closedTold (Kerb y) = closedWord (y .closed)
+
+pub record FormTold (r : FormNumbers) (f : Form) : Type 0 where
+  pub kind : r .kind ≡ kindWord f
+  pub radius : r .radius ≡ radiusTold f
+  pub join : r .join ≡ joinTold f
+  pub closed : r .closed ≡ closedTold f
+
+-- a reply and its number, a grade and a form beside them
+pub record PathReplies (r : Path) (told : Answer) (g : ℕ) (f : Form) : Type 0 where
+  pub reply : r .reply ≡ told .0
+  pub number : r .number ≡ told .1
+  pub grade : r .grade ≡ g
+  pub kind : r .kind ≡ kindWord f
+  pub radius : r .radius ≡ radiusTold f
+  pub join : r .join ≡ joinTold f
+  pub closed : r .closed ≡ closedTold f
+
+-- read: reply, number, grade, form and every lent number afterwards
+pub record ReadReplies (store : List ℕ) (out₀ : List ℤ) (r : Path) (out₁ : List ℤ) : Type 0 where
+  pub replies : PathReplies r (readReply store (length out₀)) (readGrade store (length out₀)) (readForm store (length out₀))
   pub out : out₁ ≡ readOut store out₀
 
 -- replace: reply, number and every byte of the store afterwards
@@ -83,8 +125,11 @@ OneDrawKerbReply = (points : List ℤ) (g r j c : ℕ) (out : List ℤ) (a b : R
 abbrev pub OneKeepReply : Type 0
 OneKeepReply = (path : List ℤ) (g : ℕ) (out : List ℕ) (r q : Reply) (o p : List ℕ) → KeepReplies path g out r o → KeepReplies path g out q p → (r ≡ q) × (o ≡ p)
 
+abbrev pub OneKeepKerbReply : Type 0
+OneKeepKerbReply = (points : List ℤ) (g r j c : ℕ) (out : List ℕ) (a b : Reply) (o p : List ℕ) → KeepKerbReplies points g r j c out a o → KeepKerbReplies points g r j c out b p → (a ≡ b) × (o ≡ p)
+
 abbrev pub OneReadReply : Type 0
-OneReadReply = (s : List ℕ) (out : List ℤ) (r q : Reply) (o p : List ℤ) → ReadReplies s out r o → ReadReplies s out q p → (r ≡ q) × (o ≡ p)
+OneReadReply = (s : List ℕ) (out : List ℤ) (r q : Path) (o p : List ℤ) → ReadReplies s out r o → ReadReplies s out q p → (r ≡ q) × (o ≡ p)
 
 abbrev pub OneReplaceReply : Type 0
 OneReplaceReply = (s : List ℕ) (k : ℕ) (v : Vertex) (r q : Reply) (o p : List ℕ) → ReplaceReplies s k v r o → ReplaceReplies s k v q p → (r ≡ q) × (o ≡ p)

@@ -2,20 +2,30 @@
 use drawing::Drawn;
 use editing::Replaced;
 use keeping::Kept;
+use kerb::Style;
 use oldest::Exported;
 use oldest::Imported;
+use outline::Form;
+use outline::layout::KERB_KIND;
+use outline::layout::STROKE_KIND;
+use outline::layout::closed_word;
+use outline::layout::join_word;
 use reaching::Reached;
 use reading::Read;
 use replies::Refusal;
 use replies::refusals::code;
+use words::wide_bits;
 ghost use mathlib.Core.Path.{_≡_};
 ghost use lib.IntN.{pos};
+ghost use Rattle.turning.specs.Bounds.{Radius};
+ghost use Rattle.outline.specs.Theorems.{FormWithin};
+ghost use Rattle.outline.specs.declared.Form.the-variants.{Kerb};
 ghost use Rattle.replies.specs.Refusals.{refusalOf};
 ghost use Rattle.drawing.specs.Drawing.{replyOfDrawn};
 ghost use Rattle.keeping.specs.Keeping.{replyOfKept};
-ghost use Rattle.reading.specs.Reading.{replyOfRead, gradeOfRead};
+ghost use Rattle.reading.specs.Reading.{replyOfRead, gradeOfRead, formOfRead};
 ghost use Rattle.editing.specs.Replacing.{replyOfReplaced};
-ghost use Rattle.sehmelir.specs.Boundary.{Replies, DrawReplies, DrawKerbReplies, KeepReplies, ReadReplies, ReplaceReplies, ReachReplies, Tells, ImportReplies, ExportReplies};
+ghost use Rattle.sehmelir.specs.Boundary.{Replies, FormTold, PathReplies, DrawReplies, DrawKerbReplies, KeepReplies, KeepKerbReplies, ReadReplies, ReplaceReplies, ReachReplies, Tells, ImportReplies, ExportReplies};
 ghost use Rattle.reaching.specs.Replies.{replyOfReached};
 ghost use Rattle.oldest.specs.Taken.{coordinateOf, widthOf};
 ghost use Rattle.oldest.specs.Answers.{replyOfImported, replyOfExported};
@@ -28,6 +38,26 @@ pub struct Reply {
     pub reply: u32,
     pub grade: u32,
     pub number: u64,
+}
+
+// What reading came to: the reply, the grade beside it and its number, the kind, and a kerb's radius, join and closed; each 0 where there is none.
+#[repr(C)]
+pub struct Path {
+    pub reply: u32,
+    pub grade: u32,
+    pub number: u64,
+    pub kind: u32,
+    pub radius: u32,
+    pub join: u32,
+    pub closed: u32,
+}
+
+// A form in numbers: the kind, and a kerb's radius, join and closed.
+pub struct FormNumbers {
+    pub kind: u32,
+    pub radius: u32,
+    pub join: u32,
+    pub closed: u32,
 }
 
 // What a float is taken for: 0 and the whole number; or the reason, 1 to 6, and 0.
@@ -76,17 +106,75 @@ fn kept(answer: Kept) -> Reply
     }
 }
 
+// A kerb's style in numbers.
+fn style_numbers(y: Style) -> FormNumbers
+    requires { ⌜ Radius (y .radius) ⌝ }
+    ensures { λ r. ⌜ FormTold r (Kerb y) ⌝ }
+{
+    let join = y.join;
+    FormNumbers {
+        kind: KERB_KIND,
+        radius: wide_bits(y.radius),
+        join: join_word(join),
+        closed: closed_word(y.closed),
+    }
+}
+
+// A form in numbers.
+fn form_numbers(form: Form) -> FormNumbers
+    requires { ⌜ FormWithin form ⌝ }
+    ensures { λ r. ⌜ FormTold r form ⌝ }
+{
+    match form {
+        Form::Stroke => FormNumbers {
+            kind: STROKE_KIND,
+            radius: 0,
+            join: 0,
+            closed: 0,
+        },
+        Form::Kerb(y) => style_numbers(y),
+    }
+}
+
+// The form beside what reading came to.
+fn form_read(answer: Read) -> Form
+    ensures { λ f. ⌜ f ≡ formOfRead answer ⌝ }
+{
+    match answer {
+        Read::Vertices(_, _, form) => form,
+        Read::Refused(_) => Form::Stroke,
+    }
+}
+
 // What reading came to, as a reply.
-fn path_read(answer: Read) -> Reply
+fn vertices_read(answer: Read) -> Reply
     ensures { λ p. ⌜ Replies p (replyOfRead answer) (gradeOfRead answer) ⌝ }
 {
     match answer {
-        Read::Vertices(n, grade) => Reply {
+        Read::Vertices(n, grade, _) => Reply {
             reply: 0,
             grade,
             number: n as u64,
         },
         Read::Refused(r) => refusal(r),
+    }
+}
+
+// What reading came to, with its form beside it.
+fn path_read(answer: Read) -> Path
+    requires { ⌜ FormWithin (formOfRead answer) ⌝ }
+    ensures { λ p. ⌜ PathReplies p (replyOfRead answer) (gradeOfRead answer) (formOfRead answer) ⌝ }
+{
+    let a = vertices_read(answer);
+    let f = form_numbers(form_read(answer));
+    Path {
+        reply: a.reply,
+        grade: a.grade,
+        number: a.number,
+        kind: f.kind,
+        radius: f.radius,
+        join: f.join,
+        closed: f.closed,
     }
 }
 
@@ -186,9 +274,24 @@ pub extern "C" fn sehmelir_keep(path: &[i32], grade: u32, out: &mut [u8]) -> Rep
     kept(calls::keep(path, grade, out))
 }
 
-// Reads the path of a sound outline into lent numbers, three a vertex.
+// Keeps a kerb's outline as bytes.
 #[no_mangle]
-pub extern "C" fn sehmelir_read(store: &[u8], out: &mut [i32]) -> Reply
+pub extern "C" fn sehmelir_keep_kerb(
+    points: &[i32],
+    grade: u32,
+    radius: u32,
+    join: u32,
+    closed: u32,
+    out: &mut [u8],
+) -> Reply
+    ensures { λ p. ⌜ KeepKerbReplies (now (points .entry)) grade radius join closed (now (out .entry)) p (now (out .exit)) ⌝ }
+{
+    kept(calls::keep_kerb(points, grade, radius, join, closed, out))
+}
+
+// Reads the path of a sound outline into lent numbers, three a vertex, of a kerb two.
+#[no_mangle]
+pub extern "C" fn sehmelir_read(store: &[u8], out: &mut [i32]) -> Path
     ensures { λ p. ⌜ ReadReplies (now (store .entry)) (now (out .entry)) p (now (out .exit)) ⌝ }
 {
     path_read(calls::read(store, out))

@@ -6,7 +6,7 @@ use mathlib.Core.List.{List, [], _∷_, _++_, append-assoc}
 use Prim.Native.Nat.{ℕ, _+_, _-_, _*_, _%_, _≤_, _<_}
 use native.Mathlib.Omega.{arith}
 use borrow.Author.Tests.{leb-false}
-use lib.IntN.{ℤ}
+use lib.IntN.{ℤ, pos}
 use lib.ListN.{length, getD, take, drop, set, replicate, take-append-drop, length-append, length-replicate, length-set}
 use lib.Seq.{getD-take, getD-drop, take-at, drop-at}
 use Rattle.runs.specs.Runs.{spread}
@@ -16,33 +16,42 @@ use Rattle.contacts.specs.declared.Vertex.{Vertex}
 use Rattle.turning.specs.declared.Edge.{Edge}
 use Rattle.words.specs.Words.{bytesOf}
 use Rattle.outline.specs.Outlines.{bodyWords, outlineBytes}
-use Rattle.outline.specs.Stores.{gradeIn, lengthIn, pathIn, dueIn, bodiesIn, soundOf, bodyBytesIn}
+use Rattle.outline.specs.Stores.{formIn, gradeIn, lengthIn, pathIn, dueIn, bodiesIn, soundOf, bodyBytesIn}
 use Rattle.replies.specs.Replies.{Reply, indexRow}
-use Rattle.checking.specs.StoreRows.{storeRows}
+use Rattle.heading.specs.StoreRows.{storeRows}
 use Rattle.keeping.specs.Keeping.{keepReply, keepOut}
 use Rattle.editing.specs.Replacing.{replacedOf, replaceReply, replaceOut}
-use Rattle.theorems.specs.Theorems.{KeepRead, ReplacedIsKept, BytesKept, NumberKeeps}
+use Rattle.theorems.specs.Theorems.{KeepRead, KeepKerbRead, ReplacedIsKept, BytesKept, NumberKeeps}
 use Rattle.outline.specs.Theorems.{BodyBytes}
 use Rattle.replies.proofs.Rows.{none-last}
+use Rattle.kerb_paths.specs.Points.{kerbPath}
+use Rattle.kerb_paths.proofs.PointsAhead.{point-count}
+use Rattle.heading.specs.Shows.{pointNumbers}
+use Rattle.kerb_keeping.specs.KerbKeeping.{kerbForm, kerbBytes}
+use Rattle.kerb_keeping.proofs.KerbKept.{kerb-pairs, kerb-formed, kerb-out}
 use Rattle.keeping.proofs.PathKept.{path-is-kept, keep-triples, keep-within, keep-out}
 use Rattle.reading.proofs.KeptRead.{kept-is-read}
 use Rattle.outline.proofs.ReadBack.{numbers-count}
-use Rattle.editing.proofs.Changed.{replace-none, within-store, within-set, some-set, sound-store, out-is, replaced-is-sound, store-kept}
-use Rattle.checking.proofs.Shown.{path-back}
-use Rattle.checking.proofs.FirstByte.{same-is}
+use Rattle.editing.proofs.Changed.{replace-none, within-store, within-set, some-set, sound-store, stroke-store, stroke-replaced, out-is, replaced-is-sound, store-kept}
+use Rattle.heading.proofs.Shown.{path-back}
+use Rattle.comparing.proofs.FirstByte.{same-is}
 use Rattle.outline.proofs.BodiesInBytes.{body-bytes}
+use Rattle.outline.specs.declared.Form.{Form}
+use Rattle.outline.specs.declared.Form.the-variants.{Stroke}
 use Rattle.reaching.proofs.TheNumber.{number-is, lesser}
 
 -- ---- the bytes of a body in a sound store
 
 -- a sound store begins with what is due
-pub sound-begins : (s : List ℕ) → soundOf s ≡ true → s ≡ outlineBytes (gradeIn s) (pathIn s) ++ drop (lengthIn s) s
+pub sound-begins : (s : List ℕ) → soundOf s ≡ true → s ≡ outlineBytes (formIn s) (gradeIn s) (pathIn s) ++ drop (lengthIn s) s
 unfolding soundOf dueIn
 sound-begins s e = sym (take-append-drop (lengthIn s) s) ∙ ap (λ (l : List ℕ). l ++ drop (lengthIn s) s) (same-is (take (lengthIn s) s) (dueIn s) e)
 
 pub body-bytes-in : BodyBytes
 unfolding bodiesIn
-body-bytes-in s i w e l = ap (λ (x : List ℕ). bodyBytesIn x i) (sound-begins s e) ∙ body-bytes (gradeIn s) (pathIn s) (drop (lengthIn s) s) w i l
+body-bytes-in s i o w e l =
+    ap (λ (x : List ℕ). bodyBytesIn x i) (sound-begins s e ∙ ap (λ (f : Form). outlineBytes f (gradeIn s) (pathIn s) ++ drop (lengthIn s) s) o)
+    ∙ body-bytes (gradeIn s) (pathIn s) (drop (lengthIn s) s) w i l
 
 module _ (s : List ℕ) (k : ℕ) (v : Vertex) (h : replaceReply s k v .0 ≡ 0) where
   -- where a body stays, its bytes do
@@ -51,9 +60,9 @@ module _ (s : List ℕ) (k : ℕ) (v : Vertex) (h : replaceReply s k v .0 ≡ 0)
       let r = replaced-is-sound s k v h in
       let w : Within (gradeIn (replaceOut s k v)) (pathIn (replaceOut s k v)) = rw (r .0, r .1) (within-set s k v h) in
       let n : i ≤ length (pathIn (replaceOut s k v)) = rw (r .1, length-set (pathIn s) k v) l in
-      body-bytes-in (replaceOut s k v) i w (r .2) n
+      body-bytes-in (replaceOut s k v) i (stroke-replaced s k v h) w (r .2) n
       ∙ ap (λ (es : List Edge). bytesOf (bodyWords es)) e
-      ∙ sym (body-bytes-in s i (within-store s k v h) (sound-store s k v h) l)
+      ∙ sym (body-bytes-in s i (stroke-store s k v h) (within-store s k v h) (sound-store s k v h) l)
 
 pub bytes-kept : BytesKept
 unfolding storeRows indexRow
@@ -61,7 +70,7 @@ bytes-kept s k v h =
     let kept = store-kept s k v h in
     let old = bodiesIn s in
     let new = bodiesIn (replaceOut s k v) in
-    let few : k < length (pathIn s) = leb-false _ _ (replace-none s k v h .1 .1 .1 .1 .1 .1 .1 .0) in (
+    let few : k < length (pathIn s) = leb-false _ _ (replace-none s k v h .1 .1 .1 .1 .1 .1 .1 .1 .1 .1 .0) in (
       λ i l. bytes-stay s k v h i (omega arith) (sym (getD-take k new i [] l) ∙ ap (λ (bs : List (List Edge)). getD bs i []) (kept .0) ∙ getD-take k old i [] l),
       λ far i l m.
           let j = reachOf (pathIn s) k + 1 in
@@ -80,12 +89,29 @@ numbers-back (x ∷ y ∷ []) h = absurd (omega arith)
 numbers-back (x ∷ y ∷ r ∷ l) h = ap (λ (m : List ℤ). x ∷ y ∷ r ∷ m) (numbers-back l (omega arith))
 
 pub keep-read : KeepRead
+unfolding pathNumbers
 keep-read path g out room h l =
     let vs = pathOf path in
     let b : pathNumbers vs ≡ path = numbers-back path (keep-triples path g (length out) h) in
     let n : 3 * length vs ≤ length room = omega (arith, numbers-count vs, ap length b) in
-    let r = kept-is-read g vs (drop (length (outlineBytes g vs)) out) room (keep-within path g (length out) h) n in
-    rw (keep-out path g out h) (r .0, r .1, rw b at (r .2))
+    let r = kept-is-read Stroke g vs (drop (length (outlineBytes Stroke g vs)) out) room (keep-within path g (length out) h, tt) n in
+    rw (keep-out path g out h) (r .0, r .1, r .2, rw b at (r .3))
+
+pairs-back : (r : ℤ) (l : List ℤ) → length l % 2 ≡ 0 → spread pointNumbers (kerbPath r l) ≡ l
+unfolding kerbPath pointNumbers spread
+pairs-back r [] h = refl
+pairs-back r (x ∷ []) h = absurd (omega arith)
+pairs-back r (x ∷ y ∷ l) h = ap (λ (m : List ℤ). x ∷ y ∷ m) (pairs-back r l (omega arith))
+
+pub keep-kerb-read : KeepKerbRead
+unfolding kerbBytes
+keep-kerb-read l g r j c out room h k =
+    let vs = kerbPath (pos r) l in
+    let f = kerbForm r j c in
+    let b : spread pointNumbers vs ≡ l = pairs-back (pos r) l (kerb-pairs l g r j c (length out) h) in
+    let n : 2 * length vs ≤ length room = omega (arith, point-count (pos r) l, k) in
+    let q = kept-is-read f g vs (drop (length (outlineBytes f g vs)) out) room (kerb-formed l g r j c (length out) h) n in
+    rw (kerb-out l g r j c out h) (q .0, q .1, q .2, rw b at (q .3))
 
 -- ---- a replaced store and keep
 
@@ -104,7 +130,7 @@ replaced-is-kept s k v room m z h e l =
     let zeros = replicate {A = ℕ} z 0 in
     let n : length new ≡ m = sym (replaced-long s k v h) in
     let p : pathOf path ≡ vs = path-back vs in
-    let b : outlineBytes g (pathOf path) ≡ new = rw p in
+    let b : outlineBytes Stroke g (pathOf path) ≡ new = rw p in
     let q : length path % 3 ≡ 0 = omega (arith, numbers-count vs) in
     let kr : keepReply path g (length room) ≡ (0, m) =
     path-is-kept path g (length room) q (rw p (within-set s k v h₀)) (rw p (some-set s k v h₀)) (omega (arith, ap length b)) ∙ ap (λ (x : ℕ). (0, x)) (ap length b ∙ n) in

@@ -9,6 +9,7 @@ use Rattle.turning.specs.Edges.{edgeNumbers}
 use Rattle.turning.specs.declared.Edge.{Edge}
 use Rattle.paths.specs.Paths.{pathOf, bodiesOf, edgesOf}
 use Rattle.outline.specs.Outlines.{outlineWords, outlineBytes}
+use Rattle.outline.specs.declared.Form.the-variants.{Stroke}
 use Rattle.drawing.specs.Drawing.{drawReply}
 use Rattle.reading.specs.Reading.{readReply}
 
@@ -29,10 +30,10 @@ plain (n ∷ ns) = pos n ∷ plain ns
 -- order, and the reply of draw without room. Paths without edges, which draw and keep refuse (document 02, request 9), still read: the reply of reading
 -- the path's outline into room for three vertices.
 unfoldable pub bytes : ℕ → List ℤ → List ℤ
-bytes g l = pos (length (outlineBytes g (pathOf l))) ∷ []
+bytes g l = pos (length (outlineBytes Stroke g (pathOf l))) ∷ []
 
 unfoldable pub words : ℕ → List ℤ → List ℤ
-words g l = plain (outlineWords g (pathOf l))
+words g l = plain (outlineWords Stroke g (pathOf l))
 
 unfoldable pub lengths : List (List Edge) → List ℤ
 lengths [] = []
@@ -48,7 +49,7 @@ unfoldable pub reply : ℕ → List ℤ → List ℤ
 reply g l = pos (drawReply l g 0 .0) ∷ pos (drawReply l g 0 .1) ∷ []
 
 unfoldable pub reading : ℕ → List ℤ → List ℤ
-reading g l = pos (readReply (outlineBytes g (pathOf l)) 9 .0) ∷ pos (readReply (outlineBytes g (pathOf l)) 9 .1) ∷ []
+reading g l = pos (readReply (outlineBytes Stroke g (pathOf l)) 9 .0) ∷ pos (readReply (outlineBytes Stroke g (pathOf l)) 9 .1) ∷ []
 
 unfoldable pub examples : List Example
 examples =

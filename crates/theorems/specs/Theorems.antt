@@ -2,23 +2,36 @@
 use mathlib.Core.Path.{_≡_}
 use mathlib.Core.List.{List, _++_}
 use Prim.Native.Nat.{ℕ, _+_, _-_, _≤_, _<_}
-use lib.IntN.{ℤ}
+use lib.IntN.{ℤ, pos}
 use lib.ListN.{length, take, drop, set, replicate}
 use Rattle.paths.specs.Paths.{pathOf, pathNumbers}
 use Rattle.locality.specs.Local.{reachOf}
 use Rattle.contacts.specs.declared.Vertex.{Vertex}
 use Rattle.outline.specs.Stores.{gradeIn, lengthIn, pathIn, bodyBytesIn}
+use Rattle.outline.specs.declared.Form.the-variants.{Stroke, Kerb}
+use Rattle.kerb.specs.Styles.{styleOf}
+use Rattle.kerb_paths.specs.Points.{kerbPath}
+use Rattle.kerb_keeping.specs.KerbKeeping.{keepKerbReply, keepKerbOut}
 use Rattle.keeping.specs.Keeping.{keepReply, keepOut}
-use Rattle.reading.specs.Reading.{readReply, readGrade, readOut}
+use Rattle.reading.specs.Reading.{readReply, readGrade, readForm, readOut}
 use Rattle.editing.specs.Replacing.{replaceReply, replaceOut}
 use Rattle.reaching.specs.Replies.{reachReply}
 
--- What keep wrote, read accepts and gives back, number for number, with the grade.
+-- What keep wrote, read accepts and gives back, number for number, with the grade, as a stroke's.
 abbrev pub KeepRead : Type 0
 KeepRead = (path : List ℤ) (g : ℕ) (out : List ℕ) (room : List ℤ) → keepReply path g (length out) .0 ≡ 0 → length path ≤ length room
     → (readReply (keepOut path g out) (length room) ≡ (0, length (pathOf path)))
     × (readGrade (keepOut path g out) (length room) ≡ g)
+    × (readForm (keepOut path g out) (length room) ≡ Stroke)
     × (readOut (keepOut path g out) room ≡ path ++ drop (length path) room)
+
+-- Document 02, request 3: and so of a kerb, with its radius, join and closed.
+abbrev pub KeepKerbRead : Type 0
+KeepKerbRead = (l : List ℤ) (g r j c : ℕ) (out : List ℕ) (room : List ℤ) → keepKerbReply l g r j c (length out) .0 ≡ 0 → length l ≤ length room
+    → (readReply (keepKerbOut l g r j c out) (length room) ≡ (0, length (kerbPath (pos r) l)))
+    × (readGrade (keepKerbOut l g r j c out) (length room) ≡ g)
+    × (readForm (keepKerbOut l g r j c out) (length room) ≡ Kerb (styleOf r j c))
+    × (readOut (keepKerbOut l g r j c out) room ≡ l ++ drop (length l) room)
 
 -- A store in which a vertex was replaced begins with the bytes that keep writes for the path with that vertex; then come zeros up to the old
 -- end; and past both the store is as it was. Here m is the new outline's length, and z how many zeros there are.

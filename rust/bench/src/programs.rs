@@ -37,7 +37,10 @@ pub struct Program {
 pub const LIBRARY: Program = Program {
     draw: |path, grade, out| sehmelir::draw(path, grade, out).unwrap(),
     keep: |path, grade, out| sehmelir::keep(path, grade, out).unwrap(),
-    read: |store, out| sehmelir::read(store, out).unwrap(),
+    read: |store, out| {
+        let kept = sehmelir::read(store, out).unwrap();
+        (kept.vertices, kept.grade)
+    },
     replace: |store, index, [x, y, radius]| sehmelir::replace(store, index, x, y, radius).unwrap(),
 };
 

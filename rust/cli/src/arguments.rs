@@ -1,6 +1,7 @@
 //! The command line.
 
 use crate::destination::Destination;
+use crate::kerbs::Styling;
 use crate::tile::TileCommand;
 use clap::{Args, Parser, Subcommand};
 use clap_complete::Shell;
@@ -9,8 +10,9 @@ use std::path::PathBuf;
 const AFTER_HELP: &str = "\
 A path text has a vertex a line, three whole numbers: x y radius. Blank lines count for nothing,
 and neither does what follows a #. x and y are -268435456 to 268435456, a radius is 0 to 268435456,
-a path has at most 4096 vertices. Bytes that follow a sheet are passed over. A file of the oldest
-chunks has 12 bytes a vertex: x, y and full width in millimetres, as little-endian 32-bit floats.
+a path has at most 4096 vertices. A kerb has one radius for the whole line, and its text has two
+numbers a line: x y. Bytes that follow a sheet are passed over. A file of the oldest chunks has 12
+bytes a vertex: x, y and full width in millimetres, as little-endian 32-bit floats.
 
 Input comes from standard input, or from the file that is named. The result goes to standard
 output, or with -o to a file, which is written whole or not at all. A tile that a command of chunk
@@ -36,6 +38,10 @@ pub enum Command {
     Read(Reading),
     /// The boundary of a path, an edge a line: x y of its start, x y of its end
     Draw(Drawing),
+    /// Keep a kerb, a line of one width, as a sheet
+    KeepKerb(Kerbing),
+    /// The boundary of a kerb, an edge a line: x y of its start, x y of its end
+    DrawKerb(Kerbing),
     /// A sheet with another vertex K; the first vertex is 0
     Replace(Replacing),
     /// What differs between two sheets, and what cannot
@@ -66,6 +72,20 @@ pub struct Drawing {
     #[arg(allow_negative_numbers = true)]
     pub grade: String,
     /// The path text, if not on standard input
+    pub path: Option<PathBuf>,
+    #[command(flatten)]
+    pub destination: Destination,
+}
+
+/// What keep-kerb and draw-kerb take.
+#[derive(Args)]
+pub struct Kerbing {
+    /// How finely arcs are drawn: 1 to 8, 8 is the finest
+    #[arg(allow_negative_numbers = true)]
+    pub grade: String,
+    #[command(flatten)]
+    pub styling: Styling,
+    /// The kerb's text, if not on standard input
     pub path: Option<PathBuf>,
     #[command(flatten)]
     pub destination: Destination,

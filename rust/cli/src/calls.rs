@@ -8,7 +8,7 @@ use crate::memory::{lengthen, zeros};
 use crate::oldest::{not_exported, not_imported};
 use crate::progress;
 use crate::sheet::Header;
-use sehmelir::Refusal;
+use sehmelir::{Form, Kept, Refusal, Style};
 
 /// The most vertices that a path may have: what a read, an import and an export
 /// lend room for.
@@ -36,17 +36,50 @@ pub fn keep(path: &[i32], grade: u32) -> Result<Vec<u8>, Failure> {
     })
 }
 
-/// The path of a sheet, and its grade.
-pub fn read(sheet: &[u8]) -> Result<(Vec<[i32; 3]>, u32), Failure> {
-    let mut grade = 0;
-    let path = progress::during("reading", || {
-        with_room(MOST_VERTICES, |room: &mut [[i32; 3]]| {
-            let (vertices, told) = sehmelir::read(sheet, room.as_flattened_mut())?;
-            grade = told;
-            Ok(vertices)
+/// A kerb's boundary.
+pub fn draw_kerb(points: &[i32], grade: u32, style: Style) -> Result<Vec<[i32; 4]>, Failure> {
+    let edges = likely_edges(points.len() / 2, grade);
+    progress::during("drawing", || {
+        with_room(edges, |room: &mut [[i32; 4]]| {
+            sehmelir::draw_kerb(points, grade, style, room.as_flattened_mut())
         })
-    })?;
-    Ok((path, grade))
+    })
+}
+
+/// The sheet of a kerb.
+pub fn keep_kerb(points: &[i32], grade: u32, style: Style) -> Result<Vec<u8>, Failure> {
+    let vertices = points.len() / 2;
+    let bytes = sehmelir::kerb_bytes(vertices, likely_edges(vertices, grade));
+    progress::during("keeping", || {
+        with_room(bytes, |room| {
+            sehmelir::keep_kerb(points, grade, style, room)
+        })
+    })
+}
+
+/// What a sheet holds: the numbers of its vertices, its grade, and what it is
+/// of.
+#[derive(Debug, PartialEq)]
+pub struct Read {
+    pub numbers: Vec<i32>,
+    pub grade: u32,
+    pub form: Form,
+}
+
+/// What a sheet holds.
+pub fn read(sheet: &[u8]) -> Result<Read, Failure> {
+    let mut numbers = zeros(3 * MOST_VERTICES)?;
+    let Kept {
+        vertices,
+        grade,
+        form,
+    } = progress::during("reading", || sehmelir::read(sheet, &mut numbers))?;
+    numbers.truncate(form.numbers() * vertices);
+    Ok(Read {
+        numbers,
+        grade,
+        form,
+    })
 }
 
 /// The sheet with another vertex. The memory that it stands in is lent with
@@ -114,9 +147,9 @@ fn with_room<T: Clone + Default>(
 
 #[cfg(test)]
 mod tests {
-    use super::{keep, read, replace, with_room};
+    use super::{keep, keep_kerb, read, replace, with_room, Read};
     use crate::failure::Failure;
-    use sehmelir::Refusal;
+    use sehmelir::{Form, Join, Refusal, Style};
 
     #[test]
     fn a_guess_that_is_too_short_changes_nothing() {
@@ -138,18 +171,33 @@ mod tests {
         for radius in [2, 10, 1 << 28] {
             let replaced = replace(sheet.clone(), 0, [1, 2, radius]).unwrap();
             assert_eq!(replaced, keep(&[1, 2, radius], 8).unwrap());
-            assert_eq!(read(&replaced).unwrap(), (vec![[1, 2, radius]], 8));
+            let expected = Read {
+                numbers: vec![1, 2, radius],
+                grade: 8,
+                form: Form::Stroke,
+            };
+            assert_eq!(read(&replaced).unwrap(), expected);
         }
     }
 
     #[test]
     fn room_makes_no_sheet_whole_that_was_cut_short() {
-        let mut sheet = keep(&[0, 0, 10], 1).unwrap();
-        sheet.pop();
-        let refused = replace(sheet, 0, [0, 0, 0]);
-        assert!(matches!(
-            refused,
-            Err(Failure::Refused(Refusal::NotOutline))
-        ));
+        let style = Style {
+            radius: 5,
+            join: Join::Bevel,
+            closed: false,
+        };
+        let sheets = [
+            keep(&[0, 0, 10], 1).unwrap(),
+            keep_kerb(&[0, 0, 9, 9], 1, style).unwrap(),
+        ];
+        for mut sheet in sheets {
+            sheet.pop();
+            let refused = replace(sheet, 0, [0, 0, 0]);
+            assert!(matches!(
+                refused,
+                Err(Failure::Refused(Refusal::NotOutline))
+            ));
+        }
     }
 }

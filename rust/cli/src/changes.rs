@@ -1,18 +1,24 @@
-//! What differs between two sheets with as many vertices.
+//! What differs between two sheets of one kind with as many vertices.
 
 use crate::failure::Failure;
 use crate::sheet::Sheet;
+use sehmelir::Form;
 use std::iter::zip;
 
-/// One mark a vertex and one a body, the closing one last: whether it differs.
+/// One mark a vertex and one a body, in the sheets' order: whether it differs.
 pub struct Changes {
     pub vertices: Vec<bool>,
     pub bodies: Vec<bool>,
 }
 
 impl Changes {
-    /// What differs between two sheets, if they have as many vertices.
+    /// What differs between two sheets, if they are of one kind and have as many
+    /// vertices.
     pub fn between(before: &Sheet, after: &Sheet) -> Result<Changes, Failure> {
+        let kerbs = [before, after].map(|sheet| matches!(sheet.form(), Form::Kerb(_)));
+        if kerbs[0] != kerbs[1] {
+            return Err(Failure::UnlikeForms);
+        }
         let (old, new) = (before.vertices(), after.vertices());
         if old.len() != new.len() {
             return Err(Failure::Unlike(old.len(), new.len()));

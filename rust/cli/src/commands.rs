@@ -1,15 +1,17 @@
 //! What each command does.
 
 use crate::arguments::{
-    Arguments, Command, Comparing, Drawing, Exporting, Importing, Reading, Replacing, Showing,
+    Arguments, Command, Comparing, Drawing, Exporting, Importing, Kerbing, Reading, Replacing,
+    Showing,
 };
 use crate::calls;
 use crate::changes::Changes;
 use crate::demo;
 use crate::destination::Destination;
 use crate::failure::Failure;
+use crate::kerbs;
 use crate::oldest;
-use crate::path_text::{numbers, rows};
+use crate::path_text::{numbers, pairs, rows};
 use crate::picture;
 use crate::report;
 use crate::sheet::Sheet;
@@ -18,6 +20,7 @@ use crate::tile;
 use crate::words::whole;
 use clap::CommandFactory;
 use clap_complete::{generate, Shell};
+use sehmelir::Form;
 use std::path::PathBuf;
 
 /// Runs a command.
@@ -26,6 +29,8 @@ pub fn run(command: Command) -> Result<(), Failure> {
         Command::Keep(asked) => keep(asked),
         Command::Read(asked) => read(asked),
         Command::Draw(asked) => draw(asked),
+        Command::KeepKerb(asked) => keep_kerb(asked),
+        Command::DrawKerb(asked) => draw_kerb(asked),
         Command::Replace(asked) => replace(asked),
         Command::Changed(asked) => compare(asked),
         Command::Picture(asked) => show(asked),
@@ -45,10 +50,33 @@ fn keep(asked: Drawing) -> Result<(), Failure> {
     asked.destination.write(&sheet)
 }
 
-/// A sheet's path as text.
+/// A sheet's path as text, or a kerb's points after a line that tells its style.
 fn read(asked: Reading) -> Result<(), Failure> {
-    let (path, _) = Source::named(asked.sheet).take(|sheet| calls::read(&sheet))?;
-    asked.destination.write(&rows(&path))
+    let read = Source::named(asked.sheet).take(|sheet| calls::read(&sheet))?;
+    let text = match read.form {
+        Form::Stroke => rows(read.numbers.as_chunks::<3>().0),
+        Form::Kerb(style) => {
+            let points = rows(read.numbers.as_chunks::<2>().0);
+            [kerbs::comment(style).into_bytes(), points].concat()
+        }
+    };
+    asked.destination.write(&text)
+}
+
+/// A kerb as a sheet.
+fn keep_kerb(asked: Kerbing) -> Result<(), Failure> {
+    let (grade, style) = (grade_of(&asked.grade)?, asked.styling.style()?);
+    let keep = |text: Vec<u8>| calls::keep_kerb(&pairs(&text)?, grade, style);
+    let sheet = Source::named(asked.path).take(keep)?;
+    asked.destination.write(&sheet)
+}
+
+/// A kerb's boundary as text.
+fn draw_kerb(asked: Kerbing) -> Result<(), Failure> {
+    let (grade, style) = (grade_of(&asked.grade)?, asked.styling.style()?);
+    let draw = |text: Vec<u8>| calls::draw_kerb(&pairs(&text)?, grade, style);
+    let edges = Source::named(asked.path).take(draw)?;
+    asked.destination.write(&rows(&edges))
 }
 
 /// A path's boundary as text.

@@ -10,8 +10,10 @@ use std::path::{Path, PathBuf};
 pub enum Failure {
     /// The arguments' numbers are none: what they must be.
     Words(&'static str),
-    /// The line of this number is no vertex.
+    /// The line of this number is no vertex of a path.
     Line(usize),
+    /// The line of this number is no vertex of a kerb.
+    PairLine(usize),
     /// The file of the oldest chunks has so many bytes, no multiple of 12.
     Uneven(usize),
     /// The float at this place of the oldest chunks is not taken, and why.
@@ -22,6 +24,8 @@ pub enum Failure {
     Refused(Refusal),
     /// The sheets to be compared have so many vertices and so many others.
     Unlike(usize, usize),
+    /// One of the sheets to be compared is of a path and one of a kerb.
+    UnlikeForms,
     /// The tile has no room for a sheet of so many bytes.
     NoTileRoom(usize),
     /// The file to be made is there already.
@@ -61,6 +65,10 @@ impl Display for Failure {
                 formatter,
                 "refused: line {number} is not a vertex: three whole numbers of 32 bits are due, x y radius"
             ),
+            Failure::PairLine(number) => write!(
+                formatter,
+                "refused: line {number} is not a vertex of a kerb: two whole numbers of 32 bits are due, x y"
+            ),
             Failure::Uneven(bytes) => write!(
                 formatter,
                 "refused: {bytes} bytes are not a multiple of 12: \
@@ -79,6 +87,11 @@ impl Display for Failure {
                 formatter,
                 "refused: the first sheet has {first} vertices and the second {second}; \
                  only sheets with as many vertices are held against each other"
+            ),
+            Failure::UnlikeForms => write!(
+                formatter,
+                "refused: one sheet is of a path and the other of a kerb; \
+                 only sheets of one kind are held against each other"
             ),
             Failure::NoTileRoom(bytes) => write!(
                 formatter,
@@ -138,7 +151,7 @@ fn fmt_refusal(refusal: &Refusal, formatter: &mut Formatter) -> fmt::Result {
 fn meaning(refusal: &Refusal) -> String {
     match refusal {
         Refusal::Uneven(count) => {
-            format!("the numbers lent are not a multiple of three; there are {count}")
+            format!("the numbers lent are not a multiple of three, or of two; there are {count}")
         }
         Refusal::TooMany(count) => format!("above 4096 vertices; there are {count}"),
         Refusal::Grade(grade) => format!("the grade is not 1 to 8; it is {grade}"),
@@ -152,7 +165,7 @@ fn meaning(refusal: &Refusal) -> String {
         Refusal::NotOutline => "this is no sheet: it has under 24 bytes, or its edition is not 1, \
                                 or it is shorter than its header says"
             .to_string(),
-        Refusal::Kind(kind) => format!("the sheet's kind is not 0; it is {kind}"),
+        Refusal::Kind(kind) => format!("the sheet's kind is neither 0 nor 1; it is {kind}"),
         Refusal::NotSound(byte) => format!(
             "the sheet is not sound: its bytes are not those that its own vertices and grade give; \
              the first that differs is number {byte}, counted from 0"
@@ -161,6 +174,17 @@ fn meaning(refusal: &Refusal) -> String {
             "the index is not below the number of vertices; it is {index} \
              (vertices are counted from 0)"
         ),
+        Refusal::StyleWord(place) => {
+            let due = match place {
+                5 => "the kerb's radius is not 0 to 268435456",
+                6 => "the kerb's join is not 0 (bevel) or 1 (round)",
+                _ => "the kerb's closed is not 0 or 1",
+            };
+            format!("{due}; it is word {place} of the header, counted from 0")
+        }
+        Refusal::OtherKind(kind) => {
+            format!("the sheet is of a kerb, whose vertices are not replaced; its kind is {kind}")
+        }
         Refusal::NotTaken(place) => {
             format!("a number is not taken; the first such is at place {place}, counted from 0")
         }
@@ -175,7 +199,7 @@ fn meaning(refusal: &Refusal) -> String {
         }
         Refusal::WithoutEdges(count) => format!(
             "the path has no edges, so that nothing would be drawn; its vertices are {count} \
-             (a radius of 0 or 1 draws nothing)"
+             (a radius of 0 or 1 draws nothing, and neither does a kerb whose points are all one)"
         ),
         // one that the library has and this command does not know yet
         other => other.to_string(),

@@ -1,5 +1,5 @@
-//! `sehmelir`: paths kept as sheets, read, drawn, changed, compared and shown,
-//! taken from and to the oldest chunks, and stored in tiles.
+//! `sehmelir`: paths and kerbs kept as sheets, read, drawn, changed, compared and
+//! shown, paths taken from and to the oldest chunks, and sheets stored in tiles.
 //! What rests on a proof comes from the library, `rust/sehmelir`; what is here
 //! is text, files, pictures and words.
 
@@ -10,6 +10,7 @@ mod commands;
 mod demo;
 mod destination;
 mod failure;
+mod kerbs;
 mod memory;
 mod oldest;
 mod path_text;

@@ -1,20 +1,31 @@
-//! A path as text: a vertex a line, x y radius. Blank lines count for nothing,
-//! and neither does what follows a `#` on a line.
+//! A path as text: a vertex a line, x y radius; or a kerb, x y. Blank lines
+//! count for nothing, and neither does what follows a `#` on a line.
 
 use crate::failure::Failure;
 use crate::words::whole;
 
 /// The numbers of a path text, three a vertex.
 pub fn numbers(text: &[u8]) -> Result<Vec<i32>, Failure> {
+    lines(text, 3).map_err(Failure::Line)
+}
+
+/// The numbers of a kerb's text, two a vertex.
+pub fn pairs(text: &[u8]) -> Result<Vec<i32>, Failure> {
+    lines(text, 2).map_err(Failure::PairLine)
+}
+
+/// The numbers of a text, so many a line, or the first line that has not as
+/// many.
+fn lines(text: &[u8], each: usize) -> Result<Vec<i32>, usize> {
     let mut numbers = Vec::new();
     for (place, line) in text.split(|&byte| byte == b'\n').enumerate() {
         let content = line.split(|&byte| byte == b'#').next().unwrap_or(line);
         let before = numbers.len();
         for word in words(content) {
-            numbers.push(whole(word).ok_or(Failure::Line(place + 1))?);
+            numbers.push(whole(word).ok_or(place + 1)?);
         }
-        if ![0, 3].contains(&(numbers.len() - before)) {
-            return Err(Failure::Line(place + 1));
+        if ![0, each].contains(&(numbers.len() - before)) {
+            return Err(place + 1);
         }
     }
     Ok(numbers)
@@ -59,7 +70,7 @@ fn push_number(text: &mut Vec<u8>, number: i32) {
 
 #[cfg(test)]
 mod tests {
-    use super::{numbers, rows};
+    use super::{numbers, pairs, rows};
     use crate::failure::Failure;
 
     #[test]
@@ -69,6 +80,14 @@ mod tests {
         assert_eq!(read, [0, 0, 5, -3, 4, 7, 1, 2, 3]);
         let (vertices, _) = read.as_chunks::<3>();
         assert_eq!(rows(vertices), b"0 0 5\n-3 4 7\n1 2 3\n");
+    }
+
+    #[test]
+    fn a_kerb_has_two_numbers_a_line() {
+        assert_eq!(pairs(b"# kerb: 5\n0 0\n20 -7").unwrap(), [0, 0, 20, -7]);
+        for (text, due) in [(&b"1 2 3"[..], 1), (b"1 2\n3", 2)] {
+            assert!(matches!(pairs(text), Err(Failure::PairLine(line)) if line == due));
+        }
     }
 
     #[test]

@@ -2,13 +2,18 @@
 
 use crate::changes::{count, Changes};
 use crate::failure::Failure;
+use crate::kerbs::styles;
 use crate::ranges::{counted, number, places};
 use crate::sentence::{self, Sentence};
 use crate::sheet::Sheet;
+use sehmelir::{Form, Style};
 
 /// What differs between two sheets, and what cannot.
 pub fn of(before: &Sheet, after: &Sheet) -> Result<String, Failure> {
     let changes = Changes::between(before, after)?;
+    if let (Form::Kerb(old), Form::Kerb(new)) = (before.form(), after.form()) {
+        return Ok(of_kerbs(before, after, [old, new], &changes));
+    }
     let facts = format!(
         "{}\n{}\nedges: {} before, {} after\n",
         vertices(&changes.vertices),
@@ -26,6 +31,42 @@ pub fn of(before: &Sheet, after: &Sheet) -> Result<String, Failure> {
     match sentence::of(after, &changes)? {
         Sentence::Holds(told) => Ok(format!("{facts}{told}\n")),
         Sentence::Fault(told) => Err(Failure::Fault(format!("{facts}{told}"))),
+    }
+}
+
+/// What differs between two kerbs.
+fn of_kerbs(before: &Sheet, after: &Sheet, [old, new]: [Style; 2], changes: &Changes) -> String {
+    let grade = match (before.grade(), after.grade()) {
+        (old, new) if old == new => format!("grade: {new} on each sheet"),
+        (old, new) => format!("grade: {old} before, {new} after"),
+    };
+    format!(
+        "{}\n{}\n{grade}\n{}\nedges: {} before, {} after\n\
+         of a kerb's bodies nothing is promised\n",
+        vertices(&changes.vertices),
+        styles(old, new),
+        kerb_bodies(&changes.bodies),
+        number(before.edge_count()),
+        number(after.edge_count()),
+    )
+}
+
+/// Which of a kerb's three bodies hold other edges.
+fn kerb_bodies(marks: &[bool]) -> String {
+    let names = ["lines", "corners", "ends"];
+    let some = |wanted: bool| -> Vec<&str> {
+        let marked = names.iter().zip(marks);
+        let wanted = marked.filter(|(_, &mark)| mark == wanted);
+        wanted.map(|(&name, _)| name).collect()
+    };
+    match (some(true), some(false)) {
+        (other, _) if other.is_empty() => "bodies: all three hold the same edges".to_string(),
+        (_, same) if same.is_empty() => "bodies: all three hold other edges".to_string(),
+        (other, same) => format!(
+            "bodies: {} hold other edges; {} hold the same",
+            other.join(" and "),
+            same.join(" and ")
+        ),
     }
 }
 
@@ -70,7 +111,19 @@ fn listed(places: Vec<String>) -> String {
 
 #[cfg(test)]
 mod tests {
-    use super::{bodies, vertices};
+    use super::{bodies, kerb_bodies, vertices};
+
+    #[test]
+    fn a_kerbs_bodies_are_named() {
+        assert_eq!(
+            kerb_bodies(&[false; 3]),
+            "bodies: all three hold the same edges"
+        );
+        assert_eq!(
+            kerb_bodies(&[true, true, false]),
+            "bodies: lines and corners hold other edges; ends hold the same"
+        );
+    }
 
     #[test]
     fn nothing_is_listed_where_nothing_is() {

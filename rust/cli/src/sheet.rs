@@ -1,17 +1,55 @@
-//! A sheet: a kept outline, byte for byte as document 01 has it.
+//! A sheet: a kept outline, byte for byte as the documents have it.
 
-use crate::calls;
+use crate::calls::{self, Read};
 use crate::failure::Failure;
+use sehmelir::Form;
 use std::ops::Range;
 
-/// Words before the vertices, and words of a vertex and of an edge.
-const HEADER: usize = 5;
+/// Words of an edge.
 const ROW: usize = 4;
+
+/// Where words stand in a sheet of a kind.
+#[derive(Debug, PartialEq)]
+struct Layout {
+    /// Words before the vertices.
+    header: usize,
+    /// Words of a vertex.
+    entry: usize,
+    /// Words between the vertices and the edges.
+    counts: usize,
+}
+
+impl Layout {
+    /// Document 01's, and a kerb's, of document 02.
+    const STROKE: Layout = Layout {
+        header: 5,
+        entry: 4,
+        counts: 1,
+    };
+    const KERB: Layout = Layout {
+        header: 8,
+        entry: 2,
+        counts: 3,
+    };
+
+    fn of(form: Form) -> Layout {
+        match form {
+            Form::Stroke => Layout::STROKE,
+            Form::Kerb(_) => Layout::KERB,
+        }
+    }
+
+    /// Words before the edges of so many vertices.
+    fn front(&self, vertices: usize) -> usize {
+        self.header + self.entry * vertices + self.counts
+    }
+}
 
 /// A sheet that the library found sound.
 pub struct Sheet {
     bytes: Vec<u8>,
     grade: u32,
+    form: Form,
     vertices: Vec<[i32; 3]>,
     bodies: Vec<Range<usize>>,
 }
@@ -19,11 +57,23 @@ pub struct Sheet {
 impl Sheet {
     /// The sheet of these bytes, if they are sound.
     pub fn sound(bytes: Vec<u8>) -> Result<Sheet, Failure> {
-        let (vertices, grade) = calls::read(&bytes)?;
-        let bodies = bodies(&bytes, vertices.len());
+        let Read {
+            numbers,
+            grade,
+            form,
+        } = calls::read(&bytes)?;
+        let vertices = match form {
+            Form::Stroke => numbers.as_chunks::<3>().0.to_vec(),
+            Form::Kerb(_) => {
+                let points = numbers.as_chunks::<2>().0.iter();
+                points.map(|&[x, y]| [x, y, 0]).collect()
+            }
+        };
+        let bodies = bodies(&bytes, form, vertices.len());
         Ok(Sheet {
             bytes,
             grade,
+            form,
             vertices,
             bodies,
         })
@@ -39,13 +89,20 @@ impl Sheet {
         self.grade
     }
 
-    /// x, y and radius of each vertex.
+    /// What it is of.
+    pub fn form(&self) -> Form {
+        self.form
+    }
+
+    /// x, y and radius of each vertex; 0 of a kerb's, which has one for the
+    /// whole line.
     pub fn vertices(&self) -> &[[i32; 3]] {
         &self.vertices
     }
 
     /// The edges of each body, by their numbers: one body a vertex, and the
-    /// closing one.
+    /// closing one; of a kerb those of its lines, of its corners and of its
+    /// ends.
     pub fn bodies(&self) -> &[Range<usize>] {
         &self.bodies
     }
@@ -66,19 +123,26 @@ impl Sheet {
 
     /// The bytes of these edges.
     pub fn edge_bytes(&self, numbers: Range<usize>) -> &[u8] {
-        let first = 4 * (HEADER + ROW * self.vertices.len() + 1);
+        let first = 4 * Layout::of(self.form).front(self.vertices.len());
         &self.bytes[first + 4 * ROW * numbers.start..first + 4 * ROW * numbers.end]
     }
 }
 
 /// The bodies of a sound sheet of so many vertices.
-fn bodies(bytes: &[u8], vertices: usize) -> Vec<Range<usize>> {
-    let counts = (0..=vertices).map(|body| match body {
-        closing if closing == vertices => HEADER + ROW * closing,
-        body => HEADER + ROW * body + 3,
-    });
+fn bodies(bytes: &[u8], form: Form, vertices: usize) -> Vec<Range<usize>> {
+    let layout = Layout::of(form);
+    let front = layout.front(vertices);
+    let last = front - layout.counts..front;
+    let places: Vec<usize> = match form {
+        Form::Stroke => {
+            let entries = (1..=vertices).map(|body| layout.header + layout.entry * body - 1);
+            entries.chain(last).collect()
+        }
+        Form::Kerb(_) => last.collect(),
+    };
     let mut end = 0;
-    counts
+    places
+        .into_iter()
         .map(|place| {
             let start = end;
             end += word(bytes, place).unwrap_or(0) as usize;
@@ -91,6 +155,7 @@ fn bodies(bytes: &[u8], vertices: usize) -> Vec<Range<usize>> {
 #[derive(Debug, PartialEq)]
 pub struct Header {
     pub grade: u32,
+    layout: Layout,
     vertices: usize,
     edges: usize,
 }
@@ -98,7 +163,12 @@ pub struct Header {
 impl Header {
     /// The header, if there are bytes enough for one.
     pub fn of(bytes: &[u8]) -> Option<Header> {
+        let layout = match word(bytes, 1)? {
+            1 => Layout::KERB,
+            _ => Layout::STROKE,
+        };
         Some(Header {
+            layout,
             grade: word(bytes, 2)?,
             vertices: word(bytes, 3)? as usize,
             edges: word(bytes, 4)? as usize,
@@ -107,7 +177,7 @@ impl Header {
 
     /// How long the sheet must be.
     pub fn length(&self) -> usize {
-        4 * (HEADER + 1) + 4 * ROW * (self.vertices + self.edges)
+        4 * (self.layout.front(self.vertices) + ROW * self.edges)
     }
 }
 
@@ -121,6 +191,7 @@ fn word(bytes: &[u8], place: usize) -> Option<u32> {
 mod tests {
     use super::{Header, Sheet};
     use crate::calls;
+    use sehmelir::{Form, Join, Style};
 
     #[test]
     fn a_sheet_is_taken_apart() {
@@ -133,6 +204,23 @@ mod tests {
         assert_eq!(sheet.bodies(), [0..0, 0..8, 8..8, 8..16]);
         assert_eq!(sheet.edge_count(), 16);
         assert_eq!(sheet.edges(0..2).last(), Some([6, 8, -3, 10]));
+    }
+
+    #[test]
+    fn a_kerb_is_taken_apart() {
+        let style = Style {
+            radius: 5,
+            join: Join::Round,
+            closed: false,
+        };
+        let bytes = calls::keep_kerb(&[0, 0, 20, 0, 20, 20], 1, style).unwrap();
+        let header = Header::of(&bytes).unwrap();
+        assert_eq!((header.grade, header.length()), (1, bytes.len()));
+        let sheet = Sheet::sound(bytes).unwrap();
+        assert_eq!(sheet.form(), Form::Kerb(style));
+        assert_eq!(sheet.vertices(), [[0, 0, 0], [20, 0, 0], [20, 20, 0]]);
+        assert_eq!(sheet.bodies(), [0..4, 4..8, 8..10]);
+        assert_eq!(sheet.edges(8..9).last(), Some([0, 5, 0, -5]));
     }
 
     #[test]

@@ -2,11 +2,15 @@
 //! number to standard error.
 //!
 //! sheet keep GRADE | sheet draw GRADE | sheet read | sheet replace K X Y RADIUS | sheet import | sheet export
+//! sheet keep-kerb GRADE STYLE | sheet draw-kerb GRADE STYLE, a style being --radius R --join bevel|round [--closed]
+//! sheet explain [EDGE]
 //! sheet chunk-make ENTRIES BYTES | sheet chunk-add KEY OUTLINE | sheet chunk-find KEY | sheet chunk-remove KEY | sheet chunk-compact
 
-use plain::calls::{draw, keep, read, replace, Reply};
+use plain::calls::{draw, draw_kerb, keep, keep_kerb, read, replace, Reply};
 use plain::chunks;
+use plain::kerbs::StyleWords;
 use plain::oldest::{export, import};
+use plain::reasons;
 use std::io::{self, Read, Write};
 use std::process::ExitCode;
 
@@ -92,6 +96,64 @@ fn chunk_answer(words: &[&str], chunk: Vec<u8>) -> Option<Result<Vec<u8>, Reply>
     })
 }
 
+/// A kerb's style.
+fn style(words: &[&str]) -> Option<StyleWords> {
+    let (radius, join, closed) = match *words {
+        ["--radius", radius, "--join", join] => (radius, join, 0),
+        ["--radius", radius, "--join", join, "--closed"] => (radius, join, 1),
+        _ => return None,
+    };
+    let join = ["bevel", "round"].iter().position(|&name| name == join)?;
+    Some([radius.parse().ok()?, join as u32, closed])
+}
+
+/// A sheet's path as text, or a kerb's style and points.
+fn as_text(sheet: &[u8]) -> Result<Vec<u8>, Reply> {
+    let mut room = vec![0; 3 * 4096];
+    let reply = read(sheet, &mut room);
+    let [radius, join, closed] = reply.style;
+    let count = reply.number as usize;
+    match (reply.reply, reply.kind) {
+        (0, 0) => Ok(rows(&room[..3 * count], 3)),
+        (0, _) => {
+            let join = ["bevel", "round"][join as usize];
+            let closed = if closed == 1 { " --closed" } else { "" };
+            let style = format!("# kerb: --radius {radius} --join {join}{closed}\n");
+            Ok([style.into_bytes(), rows(&room[..2 * count], 2)].concat())
+        }
+        _ => Err(reply),
+    }
+}
+
+/// Why an edge of a sheet is there, a line.
+fn why(sheet: &[u8], edge: usize) -> Result<Vec<u8>, Reply> {
+    let (refusal, why) = reasons::explain(sheet, edge);
+    let why = why.ok_or(refusal)?;
+    let reason = why.reason.words();
+    Ok(format!("{edge} {reason} {} {}\n", why.vertex, why.place).into_bytes())
+}
+
+/// Why each edge of a sheet is there, a line an edge.
+fn whys(sheet: &[u8]) -> Result<Vec<u8>, Reply> {
+    let words = [
+        "left-side",
+        "right-side",
+        "start-cap",
+        "end-cap",
+        "left-join",
+        "right-join",
+        "gap",
+        "circle",
+    ];
+    let numbers = lent(vec![], 3, |room| reasons::list(sheet, room))?;
+    let line = |(edge, why): (usize, &[u64])| {
+        let (reason, vertex, place) = (words[why[0] as usize], why[1], why[2]);
+        format!("{edge} {reason} {vertex} {place}\n")
+    };
+    let lines = numbers.chunks_exact(3).enumerate().map(line);
+    Ok(lines.collect::<String>().into_bytes())
+}
+
 /// What the command writes, or why it refuses.
 fn answer(words: &[&str], input: Vec<u8>) -> Option<Result<Vec<u8>, Reply>> {
     Some(match words {
@@ -103,12 +165,23 @@ fn answer(words: &[&str], input: Vec<u8>) -> Option<Result<Vec<u8>, Reply>> {
             let (path, grade) = (path(&input), grade.parse().ok()?);
             lent(vec![], 4, |room| draw(&path, grade, room)).map(|edges| rows(&edges, 4))
         }
-        ["read"] => lent(vec![], 3, |room| read(&input, room)).map(|path| rows(&path, 3)),
+        ["keep-kerb", grade, words @ ..] => {
+            let (points, grade, style) = (path(&input), grade.parse().ok()?, style(words)?);
+            lent(vec![], 1, |room| keep_kerb(&points, grade, style, room))
+        }
+        ["draw-kerb", grade, words @ ..] => {
+            let (points, grade, style) = (path(&input), grade.parse().ok()?, style(words)?);
+            let edges = lent(vec![], 4, |room| draw_kerb(&points, grade, style, room));
+            edges.map(|edges| rows(&edges, 4))
+        }
+        ["read"] => as_text(&input),
         ["replace", index, x, y, radius] => {
             let (index, x, y) = (index.parse().ok()?, x.parse().ok()?, y.parse().ok()?);
             let radius = radius.parse().ok()?;
             lent(input, 1, |room| replace(room, index, x, y, radius))
         }
+        ["explain"] => whys(&input),
+        ["explain", edge] => why(&input, edge.parse().ok()?),
         ["import"] => {
             let float = |word: &[u8]| f32::from_le_bytes(word.try_into().unwrap());
             let floats: Vec<f32> = input.chunks_exact(4).map(float).collect();
@@ -143,7 +216,8 @@ fn main() -> ExitCode {
         }
         None => {
             eprintln!(
-                "sheet keep GRADE | sheet draw GRADE | sheet read | sheet replace K X Y RADIUS | sheet import | sheet export | sheet chunk-.."
+                "sheet keep GRADE | sheet draw GRADE | sheet read | sheet replace K X Y RADIUS | sheet import | sheet export\n\
+                 sheet keep-kerb GRADE STYLE | sheet draw-kerb GRADE STYLE | sheet explain [EDGE] | sheet chunk-.."
             );
             ExitCode::FAILURE
         }

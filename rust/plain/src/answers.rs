@@ -123,6 +123,7 @@ fn told<T: Copy + Into<i64>>(reply: Reply, memory: &[T]) -> String {
         reply,
         number,
         grade,
+        ..
     } = reply;
     let sum = checksum(memory);
     let length = memory.len();

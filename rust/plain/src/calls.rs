@@ -1,40 +1,48 @@
-//! Document 01, the four calls and "Replies, tested in this order"; and, in the
-//! same replies, how far replacing a vertex shows.
+//! Document 01, the four calls and "Replies, tested in this order"; in the same
+//! replies, document 02's calls of a kerb, and how far replacing a vertex shows.
 //!
 //! "A refusal changes no lent memory."
 
 use crate::chains::{self, walk, Drawing};
 use crate::contacts::Vertex;
+use crate::kerbs::{self, KerbDrawing, Style, StyleWords};
+use crate::numbers::Point;
 use crate::outline::{
-    first_difference, laid, put, vertices, words, Header, EDITION, KIND, LEAST_BYTES,
+    first_difference, kerb_words, laid, laid_kerb, points, put, style_words, vertices, words,
+    Header, EDITION, KERB, LEAST_BYTES, LEAST_KERB_BYTES, STROKE,
 };
 
 /// What is ported: "0 to 4,096 vertices".
 pub const MOST_VERTICES: u64 = 4096;
 
-/// A reply, the number with it, and the grade beside it, which only a reading
-/// that is not refused sets.
+/// A reply, the number with it, and beside them what only a reading that is not
+/// refused sets: the grade, the kind and, of a kerb, its style.
 #[derive(Clone, Copy, Debug, PartialEq, Eq)]
 pub struct Reply {
     pub reply: u32,
     pub number: u64,
     pub grade: u32,
+    pub kind: u32,
+    pub style: StyleWords,
 }
 
 impl Reply {
-    /// A reply with its number and no grade.
+    /// A reply with its number, and nothing beside them.
     pub const fn new(reply: u32, number: u64) -> Reply {
         Reply {
             reply,
             number,
             grade: 0,
+            kind: 0,
+            style: [0; 3],
         }
     }
 }
 
-/// Replies: 1, "numbers lent not a multiple of three", with "how many".
-pub(crate) fn tested_numbers(count: usize) -> Result<(), Reply> {
-    match count % 3 {
+/// Replies: 1, "numbers lent not a multiple of three", with "how many"; of a
+/// kerb, "1 for an odd count".
+pub(crate) fn tested_numbers(count: usize, each: usize) -> Result<(), Reply> {
+    match count % each {
         0 => Ok(()),
         _ => Err(Reply::new(1, count as u64)),
     }
@@ -46,6 +54,12 @@ fn tested_grade(grade: u32) -> Result<(), Reply> {
         1..=8 => Ok(()),
         _ => Err(Reply::new(3, grade as u64)),
     }
+}
+
+/// Request 3: 11, "the first of radius, join and closed outside its range",
+/// with its place in the header, "straight after 3".
+fn tested_style(words: StyleWords) -> Result<Style, Reply> {
+    Style::of(words).map_err(|place| Reply::new(11, place as u64))
 }
 
 /// Replies: 2, "above 4,096 vertices", with "vertices".
@@ -84,6 +98,12 @@ fn tested_edges(vertices: usize, edges: usize) -> Result<(), Reply> {
     }
 }
 
+/// Request 3: the first point of a kerb outside the limits.
+fn tested_points(points: &[Point]) -> Result<(), Reply> {
+    let vertex = |point: &Point| Vertex::new(point.x, point.y, 0);
+    tested_limits(&points.iter().map(vertex).collect::<Vec<Vertex>>())
+}
+
 /// Draw, keep, replace: what a path gives, which "draw, keep and replace
 /// refuse" if that is nothing.
 fn drawn(path: &[Vertex], grade: u32) -> Result<Drawing, Reply> {
@@ -92,15 +112,35 @@ fn drawn(path: &[Vertex], grade: u32) -> Result<Drawing, Reply> {
     Ok(drawing)
 }
 
+/// The same of a kerb: "18 is for both kinds".
+fn drawn_kerb(points: &[Point], grade: u32, style: Style) -> Result<KerbDrawing, Reply> {
+    let drawing = kerbs::walk(points, grade, style);
+    tested_edges(points.len(), drawing.edges.len())?;
+    Ok(drawing)
+}
+
 /// Draw, keep: the path of the lent numbers, three a vertex, or the refusal.
 fn lent_path(numbers: &[i32], grade: u32) -> Result<Vec<Vertex>, Reply> {
-    tested_numbers(numbers.len())?;
+    tested_numbers(numbers.len(), 3)?;
     tested_grade(grade)?;
     tested_count(numbers.len() as u64 / 3)?;
     let vertex = |n: &[i32]| Vertex::new(n[0] as i64, n[1] as i64, n[2] as i64);
     let path: Vec<Vertex> = numbers.chunks_exact(3).map(vertex).collect();
     tested_limits(&path)?;
     Ok(path)
+}
+
+/// Draw, keep a kerb: the points of the lent numbers, two a point, and its
+/// style, or the refusal.
+fn lent_kerb(numbers: &[i32], grade: u32, words: StyleWords) -> Result<(Vec<Point>, Style), Reply> {
+    tested_numbers(numbers.len(), 2)?;
+    tested_grade(grade)?;
+    let style = tested_style(words)?;
+    tested_count(numbers.len() as u64 / 2)?;
+    let point = |n: &[i32]| Point::new(n[0] as i64, n[1] as i64);
+    let points: Vec<Point> = numbers.chunks_exact(2).map(point).collect();
+    tested_points(&points)?;
+    Ok((points, style))
 }
 
 /// Replies: 9, "index not below n", with the "index".
@@ -112,16 +152,22 @@ fn tested_index(index: usize, path: &[Vertex]) -> Result<(), Reply> {
     }
 }
 
+/// What a sound outline holds: a path, or the points of a kerb and its style.
+enum Line {
+    Path(Vec<Vertex>),
+    Kerb(Vec<Point>, Style),
+}
+
 /// What reading and replacing find in a sound outline.
 struct Kept {
     grade: u32,
-    path: Vec<Vertex>,
+    line: Line,
     length: usize,
 }
 
-/// Read, replace: the path, the grade and the length of the sound outline that
-/// the store begins with, or the refusal.
-fn kept_path(store: &[u8]) -> Result<Kept, Reply> {
+/// Replies: 6, "under 24 bytes, or edition not 1", then 7, the kind, then,
+/// "straight after 7", 6 of a kerb "under 44 bytes".
+fn tested_header(store: &[u8]) -> Result<Header, Reply> {
     let damaged = Reply::new(6, 0);
     if store.len() < LEAST_BYTES {
         return Err(damaged);
@@ -130,30 +176,82 @@ fn kept_path(store: &[u8]) -> Result<Kept, Reply> {
     if header.edition != EDITION {
         return Err(damaged);
     }
-    if header.kind != KIND {
+    if header.kind != STROKE && header.kind != KERB {
         return Err(Reply::new(7, header.kind as u64));
     }
-    tested_grade(header.grade)?;
-    tested_count(header.vertices as u64)?;
-    if (store.len() as u64) < header.length() {
+    if header.kind == KERB && store.len() < LEAST_KERB_BYTES {
         return Err(damaged);
     }
-    let path = vertices(store);
-    tested_limits(&path)?;
+    Ok(header)
+}
+
+/// Read, replace: what the sound outline that the store begins with holds, its
+/// grade and its length, or the refusal.
+fn kept(store: &[u8]) -> Result<Kept, Reply> {
+    let header = tested_header(store)?;
+    tested_grade(header.grade)?;
+    let style = match header.kind {
+        KERB => Some(tested_style(style_words(store))?),
+        _ => None,
+    };
+    tested_count(header.vertices as u64)?;
+    if (store.len() as u64) < header.length() {
+        return Err(Reply::new(6, 0));
+    }
+    let (line, words) = kept_line(store, header.grade, style)?;
     let length = header.length() as usize;
-    match first_difference(&store[..length], &words(&path, header.grade)) {
+    match first_difference(&store[..length], &words) {
         Some(byte) => Err(Reply::new(8, byte as u64)),
         None => Ok(Kept {
             grade: header.grade,
-            path,
+            line,
             length,
         }),
     }
 }
 
+/// Read, replace: what a store says that it holds, and the words that this
+/// gives; or the first vertex outside the limits.
+fn kept_line(store: &[u8], grade: u32, style: Option<Style>) -> Result<(Line, Vec<u32>), Reply> {
+    match style {
+        None => {
+            let path = vertices(store);
+            tested_limits(&path)?;
+            let words = words(&path, grade);
+            Ok((Line::Path(path), words))
+        }
+        Some(style) => {
+            let points = points(store);
+            tested_points(&points)?;
+            let words = kerb_words(&points, grade, style);
+            Ok((Line::Kerb(points, style), words))
+        }
+    }
+}
+
+/// Request 3: "replacing or explaining kind 1 is 12, with the kind, just before
+/// 9 or 10".
+fn kept_path(store: &[u8]) -> Result<(u32, Vec<Vertex>, usize), Reply> {
+    let Kept {
+        grade,
+        line,
+        length,
+    } = kept(store)?;
+    match line {
+        Line::Path(path) => Ok((grade, path, length)),
+        Line::Kerb(..) => Err(Reply::new(12, KERB as u64)),
+    }
+}
+
 /// The length of the sound outline that a store begins with, or the refusal.
 pub(crate) fn kept_length(store: &[u8]) -> Result<usize, Reply> {
-    kept_path(store).map(|kept| kept.length)
+    kept(store).map(|kept| kept.length)
+}
+
+/// The path of the sound outline that a store begins with and its grade, or the
+/// refusal.
+pub(crate) fn kept_drawing(store: &[u8]) -> Result<(Vec<Vertex>, u32), Reply> {
+    kept_path(store).map(|(grade, path, _)| (path, grade))
 }
 
 /// A call's reply, whether it refused or not.
@@ -184,19 +282,57 @@ pub fn keep(numbers: &[i32], grade: u32, room: &mut [u8]) -> Reply {
     })
 }
 
+/// Request 3: draws a kerb's edges into lent numbers, four an edge.
+pub fn draw_kerb(numbers: &[i32], grade: u32, style: StyleWords, room: &mut [i32]) -> Reply {
+    settle(|| {
+        let (points, style) = lent_kerb(numbers, grade, style)?;
+        let edges = drawn_kerb(&points, grade, style)?.edges;
+        tested_room(edges.len(), 4, room.len())?;
+        room[..4 * edges.len()].copy_from_slice(edges.as_flattened());
+        Ok(Reply::new(0, edges.len() as u64))
+    })
+}
+
+/// Request 3: keeps a kerb as bytes.
+pub fn keep_kerb(numbers: &[i32], grade: u32, style: StyleWords, room: &mut [u8]) -> Reply {
+    settle(|| {
+        let (points, style) = lent_kerb(numbers, grade, style)?;
+        let drawing = drawn_kerb(&points, grade, style)?;
+        let words = laid_kerb(&points, grade, style, &drawing);
+        let length = 4 * words.len();
+        tested_room(length, 1, room.len())?;
+        put(&words, &mut room[..length]);
+        Ok(Reply::new(0, length as u64))
+    })
+}
+
 /// Four calls: "read the path of a sound outline into lent numbers, three a
-/// vertex, its grade beside the reply (0 when refused)".
+/// vertex, its grade beside the reply (0 when refused)". Of a kerb, two a
+/// vertex, with its kind and its style beside the reply too.
 pub fn read(store: &[u8], room: &mut [i32]) -> Reply {
     settle(|| {
-        let Kept { grade, path, .. } = kept_path(store)?;
-        tested_room(path.len(), 3, room.len())?;
-        for (numbers, vertex) in room.chunks_exact_mut(3).zip(&path) {
-            numbers.copy_from_slice(&[vertex.x as i32, vertex.y as i32, vertex.radius as i32]);
+        let Kept { grade, line, .. } = kept(store)?;
+        let (kind, style, each, numbers) = match line {
+            Line::Path(path) => {
+                let numbers = path.iter().flat_map(|v| [v.x, v.y, v.radius]);
+                (STROKE, [0; 3], 3, numbers.collect::<Vec<i64>>())
+            }
+            Line::Kerb(points, style) => {
+                let numbers = points.iter().flat_map(|point| [point.x, point.y]);
+                (KERB, style.words(), 2, numbers.collect())
+            }
+        };
+        let vertices = numbers.len() / each;
+        tested_room(vertices, each, room.len())?;
+        for (entry, number) in room.iter_mut().zip(numbers) {
+            *entry = number as i32;
         }
         Ok(Reply {
             reply: 0,
-            number: path.len() as u64,
+            number: vertices as u64,
             grade,
+            kind,
+            style,
         })
     })
 }
@@ -206,11 +342,7 @@ pub fn read(store: &[u8], room: &mut [i32]) -> Reply {
 /// up to its old end."
 pub fn replace(store: &mut [u8], index: usize, x: i32, y: i32, radius: i32) -> Reply {
     settle(|| {
-        let Kept {
-            grade,
-            mut path,
-            length: old,
-        } = kept_path(store)?;
+        let (grade, mut path, old) = kept_path(store)?;
         tested_index(index, &path)?;
         path[index] = Vertex::new(x as i64, y as i64, radius as i64);
         if !path[index].allowed() {
@@ -232,7 +364,7 @@ pub fn replace(store: &mut [u8], index: usize, x: i32, y: i32, radius: i32) -> R
 /// vertices there are where no vertex ends it.
 pub fn reach(store: &[u8], index: usize) -> Reply {
     settle(|| {
-        let Kept { path, .. } = kept_path(store)?;
+        let (_, path, _) = kept_path(store)?;
         tested_index(index, &path)?;
         let reach = chains::reach(&path, index).unwrap_or(path.len());
         Ok(Reply::new(0, reach as u64))

@@ -3,6 +3,7 @@
 use crate::arcs::{arc, circle, edge, Edge, Sweep};
 use crate::contacts::{kind, Kind, Section, Trend, Vertex};
 use crate::numbers::{step_of_grade, Point};
+use crate::reasons::Reason;
 
 /// Chains: a cap "is Butt or Round".
 #[derive(Clone, Copy, Debug, PartialEq, Eq)]
@@ -19,6 +20,9 @@ pub trait Pen {
     fn arc(&mut self, step: Point, centre: Point, from: Point, to: Point, aligned: Sweep);
 
     fn circle(&mut self, step: Point, centre: Point, radius: i64);
+
+    /// Document 02, request 1: the rule that emits what comes next.
+    fn rule(&mut self, _reason: Reason) {}
 
     /// The arc of a join, which is drawn as every arc is.
     fn join_arc(&mut self, step: Point, centre: Point, from: Point, to: Point, aligned: Sweep) {
@@ -78,6 +82,7 @@ pub fn end_cap(out: &mut impl Pen, step: Point, section: &Section, cap: Cap) {
 pub fn join(out: &mut impl Pen, step: Point, prev: &Section, next: &Section) {
     let centre = prev.b.centre();
     if centre != next.a.centre() {
+        out.rule(Reason::Gap);
         end_cap(out, step, prev, Cap::Butt);
         start_cap(out, step, next, Cap::Butt);
         return;
@@ -88,12 +93,14 @@ pub fn join(out: &mut impl Pen, step: Point, prev: &Section, next: &Section) {
     let next_right = next.b_right - next.a_right;
     let bend = (centre - prev.a.centre()).cross(next.b.centre() - centre);
 
+    out.rule(Reason::LeftJoin);
     let (from, to) = (next.a_left, prev.b_left);
     if next_left.cross(prev_left) > 0 || bend < 0 {
         out.join_arc(step, centre, from, to, Sweep::Minor);
     } else {
         out.edge(from, to);
     }
+    out.rule(Reason::RightJoin);
     let (from, to) = (prev.b_right, next.a_right);
     if prev_right.cross(next_right) > 0 || bend >= 0 {
         out.join_arc(step, centre, from, to, Sweep::Major);
@@ -126,11 +133,16 @@ impl Chain {
     /// Chains: "edges b_left to a_left, a_right to b_right; then a join to the
     /// chain's last section, or the start cap."
     pub fn draw(&mut self, out: &mut impl Pen, step: Point, section: Section) {
+        out.rule(Reason::LeftSide);
         out.edge(section.b_left, section.a_left);
+        out.rule(Reason::RightSide);
         out.edge(section.a_right, section.b_right);
         match &self.last {
             Some(last) => join(out, step, last, &section),
-            None => start_cap(out, step, &section, self.cap),
+            None => {
+                out.rule(Reason::StartCap);
+                start_cap(out, step, &section, self.cap);
+            }
         }
         self.last = Some(section);
     }
@@ -140,8 +152,10 @@ impl Chain {
     /// Butt."
     pub fn finish(&self, out: &mut impl Pen, step: Point, cap: Cap) {
         if let Some(last) = &self.last {
+            out.rule(Reason::EndCap);
             end_cap(out, step, last, cap);
         } else if !self.marked && (self.cap, cap) != (Cap::Butt, Cap::Butt) {
+            out.rule(Reason::Circle);
             out.circle(step, self.start.centre(), self.start.radius);
         }
     }

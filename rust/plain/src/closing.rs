@@ -1,7 +1,8 @@
 //! Document 02, request 12: "Boundaries that close".
 //!
-//! "At each point of the plane as many edges start as end, unless a join's arc
-//! has one end at the centre and one elsewhere."
+//! "For every path accepted, in either kind, at each point of the plane as many
+//! edges start as end, unless a join's arc has one end at the centre and one
+//! elsewhere."
 
 use crate::arcs::{rotations, rotations_of_circle, Edge, Sweep};
 use crate::chains::{trace, Pen};

@@ -11,7 +11,9 @@
 //! * [`outline`] holds "The kept outline"
 //! * [`calls`] holds the four calls, "Replies, tested in this order", document
 //!   02's request 9, "No silent nothing", and how far replacing a vertex shows
+//! * [`reasons`] holds document 02's request 1, "Why is this edge here?"
 //! * [`oldest`] holds document 02's request 5, "The oldest chunks"
+//! * [`kerbs`] holds document 02's request 3, "Kerbs of one width"
 //! * [`chunks`] holds document 02's request 8, "Many outlines in one chunk"
 //! * [`closing`] holds document 02's request 12, "Boundaries that close"
 //! * [`random`] holds the generator behind the tests and the lists of cases
@@ -22,7 +24,9 @@ pub mod chains;
 pub mod chunks;
 pub mod closing;
 pub mod contacts;
+pub mod kerbs;
 pub mod numbers;
 pub mod oldest;
 pub mod outline;
 pub mod random;
+pub mod reasons;

@@ -5,7 +5,8 @@ mod balance;
 mod cases;
 
 use balance::Tally;
-use std::io::{self, BufRead, BufWriter, Write};
+use plain::reasons;
+use std::io::{self, BufRead, BufWriter, Read, Write};
 use std::process::ExitCode;
 
 const USAGE: &str = "\
@@ -15,6 +16,8 @@ plain arcs < cases > answers
 plain arcs-cases
 plain calls < cases > answers
 plain calls-cases SEED COUNT (0 0 prints the fixed list)
+plain reasons < store > lines
+plain reasons-store [SEED] > store
 plain closing < cases of calls
 plain closing-cases SEED COUNT";
 
@@ -54,6 +57,15 @@ fn close() -> io::Result<()> {
     Ok(())
 }
 
+/// Prints why each edge of the store on standard input is there, or why it is
+/// refused.
+fn name_edges() -> io::Result<()> {
+    let mut store = Vec::new();
+    io::stdin().lock().read_to_end(&mut store)?;
+    print!("{}", reasons::printed(&store));
+    Ok(())
+}
+
 /// Prints a list of cases.
 fn print(cases: impl IntoIterator<Item = String>) -> io::Result<()> {
     let mut out = BufWriter::new(io::stdout().lock());
@@ -75,6 +87,11 @@ fn run(words: &[&str]) -> Option<io::Result<()>> {
             seed.parse().ok()?,
             count.parse().ok()?,
         )),
+        ["reasons"] => name_edges(),
+        ["reasons-store"] => io::stdout().write_all(&cases::reasons::store()),
+        ["reasons-store", seed] => {
+            io::stdout().write_all(&cases::reasons::random(seed.parse().ok()?))
+        }
         ["closing"] => close(),
         ["closing-cases", seed, count] => print(cases::closing::random(
             seed.parse().ok()?,

@@ -91,7 +91,7 @@ fn pass<A: Copy, B>(
     last: impl Fn(A) -> Option<B>,
 ) -> Reply {
     settle(|| {
-        tested_numbers(numbers.len())?;
+        tested_numbers(numbers.len(), 3)?;
         tested_count(numbers.len() as u64 / 3)?;
         let mut taken = Vec::new();
         for (place, &number) in numbers.iter().enumerate() {

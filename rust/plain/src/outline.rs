@@ -1,7 +1,9 @@
-//! Document 01, "The kept outline".
+//! Document 01, "The kept outline", and kind 1 of document 02's request 3.
 
 use crate::chains::{walk, Drawing};
 use crate::contacts::Vertex;
+use crate::kerbs::{self, KerbDrawing, Style, StyleWords};
+use crate::numbers::Point;
 
 /// The kept outline: "Header: edition 1, kind 0, grade, vertices n, edges m."
 #[derive(Clone, Copy, Debug, PartialEq, Eq)]
@@ -14,11 +16,19 @@ pub struct Header {
 }
 
 pub const EDITION: u32 = 1;
-pub const KIND: u32 = 0;
+
+/// "Kinds are appended, never renumbered": a line with a radius at each vertex.
+pub const STROKE: u32 = 0;
+
+/// Request 3: "Add them as kind 1."
+pub const KERB: u32 = 1;
 
 /// The bytes that the header and the count of closing edges take: those of an
 /// outline of no vertices.
 pub const LEAST_BYTES: usize = 24;
+
+/// Request 3: the bytes of a kerb of no vertices.
+pub const LEAST_KERB_BYTES: usize = 44;
 
 impl Header {
     /// The header of a store, which has at least `LEAST_BYTES` bytes.
@@ -32,9 +42,14 @@ impl Header {
         }
     }
 
-    /// The kept outline: "Length 24 + 16n + 16m bytes."
+    /// The kept outline: "Length 24 + 16n + 16m bytes." Request 3: "Length is
+    /// 44 + 8n + 16m."
     pub fn length(&self) -> u64 {
-        LEAST_BYTES as u64 + 16 * self.vertices as u64 + 16 * self.edges as u64
+        let (vertices, edges) = (self.vertices as u64, self.edges as u64);
+        match self.kind {
+            KERB => LEAST_KERB_BYTES as u64 + 8 * vertices + 16 * edges,
+            _ => LEAST_BYTES as u64 + 16 * vertices + 16 * edges,
+        }
     }
 }
 
@@ -67,7 +82,8 @@ pub fn vertices(store: &[u8]) -> Vec<Vertex> {
 pub fn laid(path: &[Vertex], grade: u32, drawing: &Drawing) -> Vec<u32> {
     let Drawing { edges, counts } = drawing;
     let mut words = Vec::with_capacity(6 + 4 * path.len() + 4 * edges.len());
-    words.extend([EDITION, KIND, grade, path.len() as u32, edges.len() as u32]);
+    let (vertices, count) = (path.len() as u32, edges.len() as u32);
+    words.extend([EDITION, STROKE, grade, vertices, count]);
     for (vertex, count) in path.iter().zip(counts) {
         words.extend([
             vertex.x as u32,
@@ -86,6 +102,42 @@ pub fn words(path: &[Vertex], grade: u32) -> Vec<u32> {
     laid(path, grade, &walk(path, grade))
 }
 
+/// Request 3: "three words after the edge count: radius, join …, closed", of a
+/// store of at least `LEAST_KERB_BYTES` bytes.
+pub fn style_words(store: &[u8]) -> StyleWords {
+    [word(store, 5), word(store, 6), word(store, 7)]
+}
+
+/// Request 3: "Entries are x and y": the points of a store that holds as many
+/// as its header says.
+pub fn points(store: &[u8]) -> Vec<Point> {
+    let coordinate = |index| word(store, index) as i32 as i64;
+    (0..Header::of(store).vertices as usize)
+        .map(|vertex| 8 + 2 * vertex)
+        .map(|at| Point::new(coordinate(at), coordinate(at + 1)))
+        .collect()
+}
+
+/// Request 3: a kept kerb, in words: header, "radius, join (0 bevel, 1 round),
+/// closed (0 or 1). Entries are x and y; three words follow with the counts of
+/// section, join and cap edges; bodies stand in that order."
+pub fn laid_kerb(points: &[Point], grade: u32, style: Style, drawing: &KerbDrawing) -> Vec<u32> {
+    let KerbDrawing { edges, counts } = drawing;
+    let mut words = Vec::with_capacity(11 + 2 * points.len() + 4 * edges.len());
+    let (vertices, count) = (points.len() as u32, edges.len() as u32);
+    words.extend([EDITION, KERB, grade, vertices, count]);
+    words.extend(style.words());
+    words.extend(points.iter().flat_map(|p| [p.x as u32, p.y as u32]));
+    words.extend(counts);
+    words.extend(edges.as_flattened().iter().map(|&number| number as u32));
+    words
+}
+
+/// Request 3: a kept kerb, in words: what its own points, grade and style give.
+pub fn kerb_words(points: &[Point], grade: u32, style: Style) -> Vec<u32> {
+    laid_kerb(points, grade, style, &kerbs::walk(points, grade, style))
+}
+
 /// The kept outline: the words, "little-endian", into as many lent bytes.
 pub fn put(words: &[u32], room: &mut [u8]) {
     for (bytes, word) in room.chunks_exact_mut(4).zip(words) {
@@ -93,12 +145,21 @@ pub fn put(words: &[u32], room: &mut [u8]) {
     }
 }
 
+/// Words as bytes of their own.
+fn in_bytes(words: &[u32]) -> Vec<u8> {
+    let mut bytes = vec![0; 4 * words.len()];
+    put(words, &mut bytes);
+    bytes
+}
+
 /// The kept outline of a path, in bytes.
 pub fn bytes(path: &[Vertex], grade: u32) -> Vec<u8> {
-    let words = words(path, grade);
-    let mut bytes = vec![0; 4 * words.len()];
-    put(&words, &mut bytes);
-    bytes
+    in_bytes(&words(path, grade))
+}
+
+/// Request 3: a kept kerb, in bytes.
+pub fn kerb_bytes(points: &[Point], grade: u32, style: Style) -> Vec<u8> {
+    in_bytes(&kerb_words(points, grade, style))
 }
 
 /// The kept outline: "Sound means: equal to what its own vertices and grade

@@ -81,9 +81,8 @@ fn an_outline_reads_back() {
         store.extend((0..random.below(9)).map(|i| i as u8));
         let mut room = vec![9; 3 * path.len() + 4];
         let expected = Reply {
-            reply: 0,
-            number: path.len() as u64,
             grade,
+            ..Reply::new(0, path.len() as u64)
         };
         assert_eq!(read(&store, &mut room), expected);
         assert_eq!(room[..3 * path.len()], numbers(&path));

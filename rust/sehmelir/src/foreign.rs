@@ -1,12 +1,12 @@
 //! The archive's calls, as `include/sehmelir.h` declares them, on slices.
 
-use crate::{Refusal, Untaken};
+use crate::{Form, Join, Kept, Refusal, Style, Untaken};
 
 /// `struct sehmelir_reply`.
 #[repr(C)]
 pub struct Reply {
     reply: u32,
-    pub grade: u32,
+    grade: u32,
     number: u64,
 }
 
@@ -23,7 +23,7 @@ impl Reply {
 /// The refusal of a reply that is not 0 and its number.
 pub fn refused(reply: u32, number: u64) -> Refusal {
     // both casts keep the number: the archive links only where usize has
-    // 64 bits, and grades, kinds and keys are 32-bit words
+    // 64 bits, and grades, kinds, places and keys are 32-bit words
     let (long, word) = (number as usize, number as u32);
     match reply {
         1 => Refusal::Uneven(long),
@@ -35,6 +35,8 @@ pub fn refused(reply: u32, number: u64) -> Refusal {
         7 => Refusal::Kind(word),
         8 => Refusal::NotSound(long),
         9 => Refusal::NoVertex(long),
+        11 => Refusal::StyleWord(word),
+        12 => Refusal::OtherKind(word),
         13 => Refusal::NotTaken(long),
         14 => Refusal::Damaged,
         15 => Refusal::KeyThere(word),
@@ -42,6 +44,40 @@ pub fn refused(reply: u32, number: u64) -> Refusal {
         17 => Refusal::TableFull(long),
         18 => Refusal::WithoutEdges(long),
         reply => panic!("the archive gives reply {reply}, which this crate does not know"),
+    }
+}
+
+/// `struct sehmelir_path`, which begins as a reply does.
+#[repr(C)]
+pub struct Path {
+    reply: Reply,
+    kind: u32,
+    radius: u32,
+    join: u32,
+    closed: u32,
+}
+
+impl Path {
+    /// What was read, or the refusal.
+    pub fn kept(&self) -> Result<Kept, Refusal> {
+        let vertices = self.reply.number()?;
+        let form = match self.kind {
+            0 => Form::Stroke,
+            1 => Form::Kerb(Style {
+                radius: self.radius,
+                join: match self.join {
+                    0 => Join::Bevel,
+                    _ => Join::Round,
+                },
+                closed: self.closed == 1,
+            }),
+            kind => panic!("the archive gives kind {kind}, which this crate does not know"),
+        };
+        Ok(Kept {
+            vertices,
+            grade: self.reply.grade,
+            form,
+        })
     }
 }
 
@@ -86,7 +122,29 @@ extern "C" {
         out_len: usize,
     ) -> Reply;
 
-    fn sehmelir_read(store: *const u8, store_len: usize, out: *mut i32, out_len: usize) -> Reply;
+    fn sehmelir_draw_kerb(
+        points: *const i32,
+        points_len: usize,
+        grade: u32,
+        radius: u32,
+        join: u32,
+        closed: u32,
+        out: *mut i32,
+        out_len: usize,
+    ) -> Reply;
+
+    fn sehmelir_keep_kerb(
+        points: *const i32,
+        points_len: usize,
+        grade: u32,
+        radius: u32,
+        join: u32,
+        closed: u32,
+        out: *mut u8,
+        out_len: usize,
+    ) -> Reply;
+
+    fn sehmelir_read(store: *const u8, store_len: usize, out: *mut i32, out_len: usize) -> Path;
 
     fn sehmelir_replace(
         store: *mut u8,
@@ -143,7 +201,37 @@ pub fn keep(path: &[i32], grade: u32, out: &mut [u8]) -> Reply {
     }
 }
 
-pub fn read(store: &[u8], out: &mut [i32]) -> Reply {
+pub fn draw_kerb(points: &[i32], grade: u32, style: Style, out: &mut [i32]) -> Reply {
+    unsafe {
+        sehmelir_draw_kerb(
+            points.as_ptr(),
+            points.len(),
+            grade,
+            style.radius,
+            style.join.word(),
+            style.closed as u32,
+            out.as_mut_ptr(),
+            out.len(),
+        )
+    }
+}
+
+pub fn keep_kerb(points: &[i32], grade: u32, style: Style, out: &mut [u8]) -> Reply {
+    unsafe {
+        sehmelir_keep_kerb(
+            points.as_ptr(),
+            points.len(),
+            grade,
+            style.radius,
+            style.join.word(),
+            style.closed as u32,
+            out.as_mut_ptr(),
+            out.len(),
+        )
+    }
+}
+
+pub fn read(store: &[u8], out: &mut [i32]) -> Path {
     unsafe { sehmelir_read(store.as_ptr(), store.len(), out.as_mut_ptr(), out.len()) }
 }
 

@@ -3,12 +3,14 @@
 
 mod chunk;
 mod foreign;
+mod form;
 mod refusal;
 mod untaken;
 
 use std::ops::RangeInclusive;
 
 pub use chunk::{table_bytes, Chunk, MOST_ENTRIES};
+pub use form::{Form, Join, Kept, Style};
 pub use refusal::Refusal;
 pub use untaken::Untaken;
 
@@ -37,6 +39,19 @@ pub const STACK: usize = 528 << 10;
 /// ```
 pub const fn outline_bytes(vertices: usize, edges: usize) -> usize {
     24 + 16 * vertices + 16 * edges
+}
+
+/// The bytes of a kept kerb with so many vertices and edges.
+///
+/// ```
+/// use sehmelir::{kerb, kerb_bytes, Join, Style};
+///
+/// let style = Style { radius: 5, join: Join::Bevel, closed: false };
+/// assert_eq!(kerb(&[0, 0, 20, 0], 1, style)?.len(), kerb_bytes(2, 4));
+/// # Ok::<(), sehmelir::Refusal>(())
+/// ```
+pub const fn kerb_bytes(vertices: usize, edges: usize) -> usize {
+    44 + 8 * vertices + 16 * edges
 }
 
 /// Draws a path's edges into lent numbers, four an edge, and returns how many
@@ -98,26 +113,113 @@ pub fn keep(path: &[i32], grade: u32, out: &mut [u8]) -> Result<usize, Refusal> 
     foreign::keep(path, grade, out).number()
 }
 
-/// Reads the path of a sound outline into lent numbers, three a vertex, and
-/// returns how many vertices it has, and its grade.
+/// Draws a kerb's edges, a line of one width, into lent numbers, four an edge,
+/// and returns how many edges there are.
 ///
-/// The store begins with the outline and may go on after it. Numbers of `out`
-/// past the path stay as they were. An outline without edges, as they were kept
-/// once, still reads.
+/// The points are x and y of each vertex. Points that follow one another and are
+/// equal count as one. First come two edges for each line between points, then
+/// those of the corners, then the two flat ends of an open kerb. Numbers of `out`
+/// past the edges stay as they were.
 ///
 /// ```
-/// let store = sehmelir::outline(&[0, 0, 5, 20, 0, 5], 3)?;
+/// use sehmelir::{draw_kerb, Join, Style};
+///
+/// let style = Style { radius: 5, join: Join::Round, closed: false };
+/// let mut out = [7; 18];
+/// assert_eq!(draw_kerb(&[0, 0, 20, 0], 1, style, &mut out), Ok(4));
+/// assert_eq!(out[..8], [20, 5, 0, 5, 0, -5, 20, -5]);
+/// assert_eq!(out[8..], [0, 5, 0, -5, 20, -5, 20, 5, 7, 7]);
+/// ```
+///
+/// # Errors
+///
+/// In this order: [`Uneven`](Refusal::Uneven) of an odd count,
+/// [`Grade`](Refusal::Grade), [`StyleWord`](Refusal::StyleWord) of a radius
+/// above 268,435,456, [`TooMany`](Refusal::TooMany),
+/// [`Outside`](Refusal::Outside), [`WithoutEdges`](Refusal::WithoutEdges),
+/// [`NoRoom`](Refusal::NoRoom) with the edges needed. A refusal leaves `out` as
+/// it was.
+///
+/// ```
+/// use sehmelir::{draw_kerb, Join, Refusal, Style};
+///
+/// let style = Style { radius: 5, join: Join::Bevel, closed: true };
+/// let wide = Style { radius: 268435457, ..style };
+/// let thin = Style { radius: 1, ..style };
+/// let line = [0, 0, 20, 0];
+/// assert_eq!(draw_kerb(&line[..3], 1, style, &mut []), Err(Refusal::Uneven(3)));
+/// assert_eq!(draw_kerb(&line, 1, wide, &mut []), Err(Refusal::StyleWord(5)));
+/// assert_eq!(draw_kerb(&line, 1, thin, &mut []), Err(Refusal::WithoutEdges(2)));
+/// assert_eq!(draw_kerb(&line, 1, style, &mut []), Err(Refusal::NoRoom(10)));
+/// ```
+pub fn draw_kerb(
+    points: &[i32],
+    grade: u32,
+    style: Style,
+    out: &mut [i32],
+) -> Result<usize, Refusal> {
+    foreign::draw_kerb(points, grade, style, out).number()
+}
+
+/// Keeps a kerb, its grade, its style and its edges as an outline in lent bytes,
+/// and returns how many bytes it has: 44, 8 for each vertex and 16 for each edge.
+///
+/// Bytes of `out` past the outline stay as they were.
+///
+/// ```
+/// use sehmelir::{keep_kerb, Join, Style};
+///
+/// let style = Style { radius: 5, join: Join::Round, closed: false };
+/// let mut out = [7; 126];
+/// assert_eq!(keep_kerb(&[0, 0, 20, 0], 1, style, &mut out), Ok(124));
+/// assert_eq!(out[4..8], [1, 0, 0, 0]);
+/// assert_eq!(out[20..32], [5, 0, 0, 0, 1, 0, 0, 0, 0, 0, 0, 0]);
+/// assert_eq!(out[124..], [7, 7]);
+/// ```
+///
+/// # Errors
+///
+/// Those of [`draw_kerb`], with the bytes needed beside
+/// [`NoRoom`](Refusal::NoRoom). A refusal leaves `out` as it was.
+pub fn keep_kerb(
+    points: &[i32],
+    grade: u32,
+    style: Style,
+    out: &mut [u8],
+) -> Result<usize, Refusal> {
+    foreign::keep_kerb(points, grade, style, out).number()
+}
+
+/// Reads the vertices of a sound outline into lent numbers, three a vertex of a
+/// path and two of a kerb, and returns how many there are, the grade, and what
+/// the outline is of.
+///
+/// The store begins with the outline and may go on after it. Numbers of `out`
+/// past the vertices stay as they were. An outline without edges, as they were
+/// kept once, still reads.
+///
+/// ```
+/// use sehmelir::{kerb, outline, read, Form, Join, Style};
+///
+/// let store = outline(&[0, 0, 5, 20, 0, 5], 3)?;
 /// let mut out = [7; 8];
-/// assert_eq!(sehmelir::read(&store, &mut out)?, (2, 3));
+/// let kept = read(&store, &mut out)?;
+/// assert_eq!((kept.vertices, kept.grade, kept.form), (2, 3, Form::Stroke));
 /// assert_eq!(out, [0, 0, 5, 20, 0, 5, 7, 7]);
+///
+/// let style = Style { radius: 5, join: Join::Bevel, closed: true };
+/// let kept = read(&kerb(&[1, 2, 20, 0], 3, style)?, &mut out)?;
+/// assert_eq!((kept.vertices, kept.grade, kept.form), (2, 3, Form::Kerb(style)));
+/// assert_eq!(out[..4], [1, 2, 20, 0]);
 /// # Ok::<(), sehmelir::Refusal>(())
 /// ```
 ///
 /// # Errors
 ///
 /// In this order: [`NotOutline`](Refusal::NotOutline),
-/// [`Kind`](Refusal::Kind), [`Grade`](Refusal::Grade),
-/// [`TooMany`](Refusal::TooMany), [`NotOutline`](Refusal::NotOutline) of a
+/// [`Kind`](Refusal::Kind), [`NotOutline`](Refusal::NotOutline) of a kerb under
+/// 44 bytes, [`Grade`](Refusal::Grade), [`StyleWord`](Refusal::StyleWord) of a
+/// kerb, [`TooMany`](Refusal::TooMany), [`NotOutline`](Refusal::NotOutline) of a
 /// store shorter than its header says, [`Outside`](Refusal::Outside),
 /// [`NotSound`](Refusal::NotSound), [`NoRoom`](Refusal::NoRoom) with the
 /// vertices needed. A refusal leaves `out` as it was.
@@ -131,9 +233,8 @@ pub fn keep(path: &[i32], grade: u32, out: &mut [u8]) -> Result<usize, Refusal> 
 /// assert_eq!(read(&store, &mut [0; 3]), Err(Refusal::NotSound(50)));
 /// # Ok::<(), Refusal>(())
 /// ```
-pub fn read(store: &[u8], out: &mut [i32]) -> Result<(usize, u32), Refusal> {
-    let reply = foreign::read(store, out);
-    reply.number().map(|vertices| (vertices, reply.grade))
+pub fn read(store: &[u8], out: &mut [i32]) -> Result<Kept, Refusal> {
+    foreign::read(store, out).kept()
 }
 
 /// Replaces one vertex in a sound outline, at the same grade, and returns how
@@ -156,6 +257,7 @@ pub fn read(store: &[u8], out: &mut [i32]) -> Result<(usize, u32), Refusal> {
 /// # Errors
 ///
 /// Those of [`read`] up to [`NotSound`](Refusal::NotSound), then
+/// [`OtherKind`](Refusal::OtherKind) of a kerb,
 /// [`NoVertex`](Refusal::NoVertex), [`Outside`](Refusal::Outside) of the new
 /// vertex with its index, [`WithoutEdges`](Refusal::WithoutEdges) of the
 /// changed path, [`NoRoom`](Refusal::NoRoom) with the bytes needed. A refusal
@@ -206,6 +308,7 @@ pub fn replace(
 /// # Errors
 ///
 /// Those of [`read`] up to [`NotSound`](Refusal::NotSound), then
+/// [`OtherKind`](Refusal::OtherKind) of a kerb,
 /// [`NoVertex`](Refusal::NoVertex).
 ///
 /// ```
@@ -345,6 +448,23 @@ pub fn edges(path: &[i32], grade: u32) -> Result<Vec<[i32; 4]>, Refusal> {
 /// Those of [`keep`] but [`NoRoom`](Refusal::NoRoom).
 pub fn outline(path: &[i32], grade: u32) -> Result<Vec<u8>, Refusal> {
     with_room(|out| keep(path, grade, out))
+}
+
+/// A kept kerb in memory of its own: [`keep_kerb`] without a room.
+///
+/// ```
+/// use sehmelir::{kerb, Join, Style};
+///
+/// let style = Style { radius: 5, join: Join::Round, closed: true };
+/// assert_eq!(kerb(&[], 2, style)?.len(), 44);
+/// # Ok::<(), sehmelir::Refusal>(())
+/// ```
+///
+/// # Errors
+///
+/// Those of [`keep_kerb`] but [`NoRoom`](Refusal::NoRoom).
+pub fn kerb(points: &[i32], grade: u32, style: Style) -> Result<Vec<u8>, Refusal> {
+    with_room(|out| keep_kerb(points, grade, style, out))
 }
 
 /// What a call writes when it has just the room that it needs, which it tells

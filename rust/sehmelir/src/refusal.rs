@@ -9,7 +9,7 @@ use std::fmt::{self, Display, Formatter};
 #[derive(Clone, Copy, Debug, PartialEq, Eq)]
 pub enum Refusal {
     /// 1: so many numbers were lent as a path, and that is no multiple of
-    /// three.
+    /// three; or as a kerb's points, and that is odd.
     Uneven(usize),
     /// 2: so many vertices are above 4,096.
     TooMany(usize),
@@ -25,16 +25,21 @@ pub enum Refusal {
     /// that is added to a [`Chunk`](crate::Chunk) has so many bytes, and the
     /// chunk has no room for it, compacted or not.
     NoRoom(usize),
-    /// 6: the store has under 24 bytes, or its edition is not 1, or it is
-    /// shorter than its header says.
+    /// 6: the store has under 24 bytes, or of kind 1 under 44, or its edition is
+    /// not 1, or it is shorter than its header says.
     NotOutline,
-    /// 7: the outline is of this kind, which is not 0.
+    /// 7: the outline is of this kind, which is neither 0 nor 1.
     Kind(u32),
-    /// 8: the outline is not what its own vertices and grade give, and this
-    /// byte is the first that differs.
+    /// 8: the outline is not what its own vertices and grade, and of a kerb its
+    /// style, give, and this byte is the first that differs.
     NotSound(usize),
     /// 9: the outline has no vertex of this index.
     NoVertex(usize),
+    /// 11: of a kerb's radius, join and closed the first that is outside its
+    /// range is the one at this place of the header, counted from 0: 5, 6 or 7.
+    StyleWord(u32),
+    /// 12: the outline is of this kind, which has no vertex to be replaced.
+    OtherKind(u32),
     /// 13: of the numbers lent to [`import`](crate::import) or
     /// [`export`](crate::export) the one at this place, counted from 0, is the
     /// first that is not taken.
@@ -72,6 +77,8 @@ impl Refusal {
             Refusal::Kind(_) => 7,
             Refusal::NotSound(_) => 8,
             Refusal::NoVertex(_) => 9,
+            Refusal::StyleWord(_) => 11,
+            Refusal::OtherKind(_) => 12,
             Refusal::NotTaken(_) => 13,
             Refusal::Damaged => 14,
             Refusal::KeyThere(_) => 15,
@@ -88,7 +95,7 @@ impl Display for Refusal {
             Refusal::Uneven(count) => {
                 write!(
                     formatter,
-                    "a path of {count} numbers is not made of triples"
+                    "{count} numbers are no path of triples and no kerb of pairs"
                 )
             }
             Refusal::TooMany(count) => write!(formatter, "{count} vertices are above 4096"),
@@ -102,11 +109,22 @@ impl Display for Refusal {
             Refusal::NotOutline => {
                 write!(formatter, "the store is too short or not of edition 1")
             }
-            Refusal::Kind(kind) => write!(formatter, "kind {kind} is not 0"),
+            Refusal::Kind(kind) => write!(formatter, "kind {kind} is neither 0 nor 1"),
             Refusal::NotSound(byte) => {
                 write!(formatter, "the outline is not sound, first at byte {byte}")
             }
             Refusal::NoVertex(index) => write!(formatter, "the outline has no vertex {index}"),
+            Refusal::StyleWord(place) => {
+                let word = match place {
+                    5 => "radius",
+                    6 => "join",
+                    _ => "closed",
+                };
+                write!(formatter, "a kerb's {word} is outside its range")
+            }
+            Refusal::OtherKind(kind) => {
+                write!(formatter, "an outline of kind {kind} is not changed so")
+            }
             Refusal::NotTaken(place) => {
                 write!(formatter, "the number at place {place} is not taken")
             }

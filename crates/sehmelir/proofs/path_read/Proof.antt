@@ -1,32 +1,22 @@
--- `sehmelir::path_read` meets its contract: each answer has its number, and a path read its grade. Assumes nothing.
-use mathlib.Core.Path.{refl, sym, ap}
+-- `sehmelir::path_read` meets its contract: the reply, and the form beside it. Assumes nothing.
+use mathlib.Core.Path.{refl}
 use borrow.Author.Needs.{needs}
-use Rattle.reading.specs.Reading.{replyOfRead, gradeOfRead}
-use Rattle.sehmelir.proofs.Told.{graded-as}
+use Rattle.outline.specs.Theorems.{FormWithin}
+use Rattle.sehmelir.proofs.Told.{path-told}
 use Rattle.sehmelir.proofs.path_read.Statement.{statement}
 use Rattle.sehmelir.proofs.path_read.Tie as tie
 
-enum-known-answer : tie.Need-enum-known-answer
-enum-known-answer c = search needs
+vertices-read-requires : tie.Need-vertices-read-requires
+vertices-read-requires c κs = search needs
 
-enum-known-answer-2 : tie.Need-enum-known-answer-2
-enum-known-answer-2 c = search needs
+form-read-requires : tie.Need-form-read-requires
+form-read-requires c κs = search needs
 
-refusal-requires : tie.Need-refusal-requires
-refusal-requires c κs = search needs
+form-numbers-requires : tie.Need-form-numbers-requires
+form-numbers-requires c κs = rw (c .form-read .ensures) (c .before .before .pre)
 
 returns : tie.Need-returns
-unfolding replyOfRead gradeOfRead
-returns c =
-    graded-as
-    (ap replyOfRead (sym (c .before .answer .given .1)))
-    (ap gradeOfRead (sym (c .before .answer .given .1)))
-    (record { reply = refl; number = refl; grade = refl })
-
-returns-2 : tie.Need-returns-2
-unfolding replyOfRead gradeOfRead
-returns-2 c = graded-as (ap replyOfRead (sym (c .before .before .answer2 .given .1))) (ap gradeOfRead (sym (c .before .before .answer2 .given .1))) (c .refusal .ensures)
+returns c = path-told (c .before .before .vertices-read .ensures) (c .form-numbers .ensures) (c .before .form-read .ensures) refl refl refl refl refl refl refl
 
 pub path-read-spec : {M : Type 1} → statement M
-path-read-spec =
-    tie.close (tie.spec enum-known-answer enum-known-answer-2 refusal-requires returns returns-2)
+path-read-spec = tie.close (tie.spec vertices-read-requires form-read-requires form-numbers-requires returns)

@@ -1,6 +1,7 @@
 //! Runs `plain` and the crate's own text beside each other.
 
 mod fixed;
+mod kerbs;
 mod shrink;
 mod tally;
 mod text;
@@ -21,13 +22,17 @@ const USAGE: &str = "\
 compare [COUNT [SEED]]          compares COUNT random paths (100000)
 compare guesses [COUNT [SEED]]  the same with each guess turned the other way
 compare list                    prints list.txt
-compare show PATH               all edges of a path such as \"(0,0,5) (20,0,5)\"";
+compare show PATH               all edges of a path such as \"(0,0,5) (20,0,5)\"
+compare kerbs [COUNT [SEED]]    compares each join's side of COUNT random kerbs (100000)
+compare kerbs-list              prints kerbs.txt";
 
 fn main() -> ExitCode {
     let words: Vec<String> = std::env::args().skip(1).collect();
     let words: Vec<&str> = words.iter().map(String::as_str).collect();
     let done = match words[..] {
         ["list"] => Some(list()),
+        ["kerbs-list"] => Some(kerbs::list()),
+        ["kerbs", ref rest @ ..] => numbers(rest).map(|(count, seed)| kerbs::compare(count, seed)),
         ["show", path] => parse(&format!("{path}:")).map(|(path, _)| show(&path)),
         ["guesses", ref rest @ ..] => numbers(rest).map(|(count, seed)| guesses(count, seed)),
         ref rest => numbers(rest).map(|(count, seed)| compare(count, seed)),

@@ -4,6 +4,7 @@ use super::frame::Point;
 use super::pen::Pen;
 use super::view::View;
 use crate::sheet::Sheet;
+use sehmelir::Form;
 use std::iter::zip;
 
 /// The data of an SVG path and how many lines it has: the edges of the bodies
@@ -24,12 +25,21 @@ pub fn bodies(
     pen.finish()
 }
 
-/// The data of an SVG path: the way from vertex to vertex.
+/// The data of an SVG path: the way from vertex to vertex, and of a closed kerb
+/// back to the first.
 pub fn way(view: View, sheet: &Sheet) -> String {
     let mut pen = Pen::new(view, 0);
-    for pair in sheet.vertices().windows(2) {
-        let [start, end] = [pair[0], pair[1]].map(|[x, y, _]| Point::of(x, y));
+    let mut line = |pair: [[i32; 3]; 2]| {
+        let [start, end] = pair.map(|[x, y, _]| Point::of(x, y));
         pen.line(start, end);
+    };
+    let vertices = sheet.vertices();
+    vertices
+        .windows(2)
+        .for_each(|pair| line([pair[0], pair[1]]));
+    let closed = matches!(sheet.form(), Form::Kerb(style) if style.closed);
+    if let ([first, .., last], true) = (vertices, closed) {
+        line([*last, *first]);
     }
     pen.finish().0
 }

@@ -3,14 +3,17 @@
 use super::pen::decimal;
 use super::Shown;
 use crate::changes::{count, first_marked};
+use crate::kerbs;
 use crate::ranges::{counted, number};
 use crate::sheet::Sheet;
+use sehmelir::Form;
 
 /// The first line of one sheet's picture.
 pub fn of_one(sheet: &Sheet) -> String {
     let vertices = counted(sheet.vertices().len(), "vertex", "vertices");
     let edges = counted(sheet.edge_count(), "edge", "edges");
-    format!("{vertices}, {edges}, grade {}", sheet.grade())
+    let kerb = kerbs::of(sheet);
+    format!("{vertices}, {edges}, grade {}{kerb}", sheet.grade())
 }
 
 /// The first line of two sheets' picture.
@@ -22,7 +25,8 @@ pub fn of_two(before: &Sheet, after: &Sheet) -> String {
         (old, new) if old == new => new.to_string(),
         (old, new) => format!("{old} before and {new} after"),
     };
-    format!("{vertices}, {edges} before and {later} after, grade {grade}")
+    let kerb = kerbs::of(after);
+    format!("{vertices}, {edges} before and {later} after, grade {grade}{kerb}")
 }
 
 /// What differs, in one line.
@@ -37,8 +41,19 @@ pub fn of_changes(shown: Shown) -> String {
     format!(
         "{moved}; {other}: {} (<tspan class=\"after\">red: after</tspan>, \
          <tspan class=\"before\">blue dashes: before</tspan>)",
-        span(bodies)
+        match shown.after.form() {
+            Form::Stroke => span(bodies),
+            Form::Kerb(_) => of_kerb(bodies),
+        }
     )
+}
+
+/// Which bodies of a kerb changed.
+fn of_kerb(bodies: &[bool]) -> String {
+    let names = ["lines", "corners", "ends"];
+    let changed = names.into_iter().zip(bodies).filter(|(_, &mark)| mark);
+    let changed: Vec<&str> = changed.map(|(name, _)| name).collect();
+    changed.join(", ")
 }
 
 /// Which bodies changed, from the first to the last.

@@ -4,6 +4,8 @@ use super::line;
 use crate::answers::needed;
 use plain::calls::{draw, keep};
 use plain::contacts::{Vertex, LIMIT};
+use plain::kerbs::{Style, StyleWords};
+use plain::numbers::Point;
 use plain::outline;
 use plain::random::Random;
 
@@ -77,6 +79,14 @@ fn kept(path: &[i32], grade: u32) -> Vec<u8> {
     outline::bytes(&path, grade)
 }
 
+/// A kept kerb, also one without edges.
+fn kept_kerb(points: &[[i32; 2]], grade: u32, style: StyleWords) -> Vec<u8> {
+    let style = Style::of(style).expect("a style within its ranges");
+    let point = |&[x, y]: &[i32; 2]| Point::new(x as i64, y as i64);
+    let points: Vec<Point> = points.iter().map(point).collect();
+    outline::kerb_bytes(&points, grade, style)
+}
+
 /// The bytes that a path's outline has, whether or not its edges are any; 0 if
 /// the path is refused for another reason.
 fn length(path: &[i32], grade: u32) -> usize {
@@ -141,6 +151,7 @@ pub fn fixed() -> Vec<String> {
     refused_paths(&mut cases);
     paths_without_edges(&mut cases);
     refused_stores(&mut cases);
+    kept_kerbs(&mut cases);
     changed_lengths(&mut cases);
     each_byte_damaged(&mut cases);
     many_vertices(&mut cases);
@@ -375,6 +386,55 @@ fn refused_stores(cases: &mut Vec<String>) {
             vertex,
             &[sound.as_slice(), &[7; 200]].concat(),
         ));
+    }
+}
+
+/// Kerbs, which are read and not replaced, and each refusal of a store of kind
+/// 1, alone and before those that come later.
+fn kept_kerbs(cases: &mut Vec<String>) {
+    let corner = [[0, 0], [20, 0], [20, 20]];
+    let sound = kept_kerb(&corner, 1, [5, 1, 0]);
+    let past = MOST as u32 + 1;
+    let mut stores = vec![
+        kept_kerb(&[], 1, [0, 0, 0]),
+        kept_kerb(&[], 8, [MOST as u32, 1, 1]),
+        kept_kerb(&[[7, -7]], 1, [5, 0, 0]),
+        kept_kerb(&corner[..2], 1, [5, 0, 1]),
+        kept_kerb(&corner, 3, [1, 1, 1]),
+        kept_kerb(&[[0, 0], [20, 0], [20, 0], [0, 20], [0, 0]], 2, [4, 1, 1]),
+        sound.clone(),
+        sound[..43].to_vec(),
+        sound[..44].to_vec(),
+        sound[..sound.len() - 1].to_vec(),
+        [sound.as_slice(), &[0xEE; 9]].concat(),
+        bytes(&[1, 1, 9, 4097, 0, past, 2, 2, 0, 0]),
+        bytes(&[1, 1, 9, 4097, 0, past, 2, 2, 0, 0, 0]),
+        bytes(&[1, 2, 9, 4097, 0, past, 2, 2, 0, 0, 0]),
+        bytes(&[1, 1, 8, 4097, 0, past, 2, 2, 0, 0, 0]),
+        bytes(&[1, 1, 8, 4097, 0, 5, 2, 2, 0, 0, 0]),
+        bytes(&[1, 1, 8, 4097, 0, 5, 1, 2, 0, 0, 0]),
+        bytes(&[1, 1, 8, 4097, 0, 5, 1, 1, 0, 0, 0]),
+        bytes(&[1, 1, 8, 1, u32::MAX, 5, 1, 1, past, 0, 0, 0, 0]),
+        bytes(&[1, 1, 8, 1, 0, 5, 1, 1, past, 0, 7, 0, 0]),
+        bytes(&[1, 1, 8, 1, 0, 5, 1, 1, 0, 0, 7, 0, 0]),
+    ];
+    for place in 0..17 {
+        for word in [0, 1, 2, past, past.wrapping_neg(), u32::MAX] {
+            stores.push(with_word(&sound, place, word));
+        }
+    }
+    for store in &stores {
+        cases.push(read_case(6, store));
+        cases.push(replace_case(0, [1, 1, 5], store));
+        cases.push(replace_case(9, [MOST + 1, 0, 0], store));
+    }
+    for room in 0..8 {
+        cases.push(read_case(room, &sound));
+    }
+    for at in 0..sound.len() {
+        let mut store = sound.clone();
+        store[at] = store[at].wrapping_add(128);
+        cases.push(read_case(6, &store));
     }
 }
 
@@ -723,6 +783,22 @@ impl Maker {
         keep_case(grade, self.room(length), &path)
     }
 
+    /// A kerb short enough to be written as a case, and its points.
+    fn kerb(&mut self) -> (usize, Vec<u8>) {
+        loop {
+            let path = self.sound_path();
+            let points: Vec<[i32; 2]> = path.iter().map(|&[x, y, _]| [x, y]).collect();
+            let random = &mut self.random;
+            let radius = random.pick(&[0, 1, 2, 5, 12, 300, MOST as u32]);
+            let style = [radius, random.below(2) as u32, random.below(2) as u32];
+            let grade = random.pick(&[1, 1, 1, 2, 3, 5, 8]);
+            let store = kept_kerb(&points, grade, style);
+            if store.len() <= random.pick(&[200, 600, 1200, 3800]) {
+                return (points.len(), store);
+            }
+        }
+    }
+
     /// An outline short enough to be written as a case, and its path.
     fn store(&mut self) -> (Vec<Triple>, u32, Vec<u8>) {
         loop {
@@ -738,11 +814,13 @@ impl Maker {
 
     /// A byte or a word of a store changed, or its end cut.
     fn damage(&mut self, store: &mut Vec<u8>) {
-        let vertices = u32::from_le_bytes([store[12], store[13], store[14], store[15]]);
-        let edges = u32::from_le_bytes([store[16], store[17], store[18], store[19]]);
+        let header = outline::Header::of(store);
+        let (vertices, edges) = (header.vertices, header.edges);
+        let kerb = header.kind == outline::KERB;
         let places = store.len() as u64 / 4;
+        let past = MOST as u32 + 1;
         let random = &mut self.random;
-        let (place, word) = match random.below(13) {
+        let (place, word) = match random.below(14) {
             0..3 => {
                 let at = random.below(store.len() as u64) as usize;
                 store[at] = store[at].wrapping_add(random.between(1, 255) as u8);
@@ -757,7 +835,7 @@ impl Maker {
                 return;
             }
             5 => (0, random.pick(&[0, 2, 257, u32::MAX])),
-            6 => (1, random.pick(&[1, 2, 1 << 16, 1 << 31])),
+            6 => (1, random.pick(&[0, 1, 2, 1 << 16, 1 << 31])),
             7 => (2, random.pick(&[0, 1, 2, 8, 9, 256, u32::MAX])),
             8 => {
                 let choices = [vertices + 1, vertices.max(1) - 1, 4096, 4097, u32::MAX];
@@ -768,14 +846,24 @@ impl Maker {
                 (4, random.pick(&choices))
             }
             10 if vertices > 0 => {
-                let past = MOST as u32 + 1;
-                let place = 5 + 4 * random.below(vertices as u64) + random.below(3);
+                let vertex = random.below(vertices as u64);
+                let place = match kerb {
+                    true => 8 + 2 * vertex + random.below(2),
+                    false => 5 + 4 * vertex + random.below(3),
+                };
                 let words = [past, past.wrapping_neg(), 1 << 31, u32::MAX, 0, 1];
                 (place as usize, random.pick(&words))
             }
             11 if vertices > 0 => {
-                let place = 8 + 4 * random.below(vertices as u64);
+                let place = match kerb {
+                    true => 8 + 2 * vertices as u64 + random.below(3),
+                    false => 8 + 4 * random.below(vertices as u64),
+                };
                 (place as usize, random.below(12) as u32)
+            }
+            12 if kerb => {
+                let place = 5 + random.below(3) as usize;
+                (place, random.pick(&[0, 1, 2, past, u32::MAX]))
             }
             _ => (random.below(places) as usize, random.below(30) as u32),
         };
@@ -790,13 +878,19 @@ impl Maker {
     }
 
     fn read(&mut self) -> String {
-        let (path, _, mut store) = self.store();
+        let (needed, mut store) = if self.random.chance(35) {
+            let (points, store) = self.kerb();
+            (2 * points, store)
+        } else {
+            let (path, _, store) = self.store();
+            (3 * path.len(), store)
+        };
         let more = self.random.pick(&[0, 0, 0, 1, 5, 16, 40]);
         if self.random.chance(55) {
             self.damage(&mut store);
         }
         self.lengthen(&mut store, more);
-        let room = self.room(3 * path.len());
+        let room = self.room(needed);
         read_case(room, &store)
     }
 
@@ -836,6 +930,14 @@ impl Maker {
     }
 
     fn replace(&mut self) -> String {
+        if self.random.chance(8) {
+            let (points, mut store) = self.kerb();
+            if self.random.chance(50) {
+                self.damage(&mut store);
+            }
+            let (index, vertex) = (self.index(points), self.any_vertex());
+            return replace_case(index, vertex, &store);
+        }
         let (path, grade, mut store) = self.store();
         let index = self.index(path.len());
         let vertex = self.replacement(path.get(index as usize));

@@ -1,5 +1,5 @@
-//! Cases of draw that try whether boundaries close: paths that other lists have
-//! few of.
+//! Cases that try whether boundaries close: paths that other lists have few of,
+//! and kerbs.
 
 use super::line;
 use plain::contacts::LIMIT;
@@ -8,10 +8,13 @@ use plain::random::Random;
 type Triple = [i64; 3];
 
 /// `count` cases that `seed` determines, in the form of the calls' cases: draw,
-/// with no room lent.
+/// with no room lent; and a fifth of them kerbs, in a form of their own.
 pub fn random(seed: u64, count: usize) -> impl Iterator<Item = String> {
     let mut random = Random::new(seed);
     (0..count).map(move |_| {
+        if random.chance(20) {
+            return kerb(&mut random);
+        }
         let path = path(&mut random);
         let grade = random.between(1, 8);
         let mut numbers = vec![1, grade, 0, 3 * path.len() as i64];
@@ -20,7 +23,34 @@ pub fn random(seed: u64, count: usize) -> impl Iterator<Item = String> {
     })
 }
 
-fn path(random: &mut Random) -> Vec<Triple> {
+/// A kerb of any style: points on a small or a large sheet, some of them twice,
+/// straight on or straight back.
+fn kerb(random: &mut Random) -> String {
+    let side = random.pick(&[2, 5, 40, 3000, LIMIT]);
+    let wide = random.pick(&[2, 9, 500, LIMIT]);
+    let radius = random.between(0, wide);
+    let mut points: Vec<i64> = Vec::new();
+    for _ in 0..random.between(1, 9) {
+        let [x, y, _] = vertex(random, side, 0);
+        let before = points.last_chunk::<4>().copied();
+        match before {
+            Some([_, _, ax, ay]) if random.chance(10) => points.extend([ax, ay]),
+            Some([ax, ay, _, _]) if random.chance(10) => points.extend([ax, ay]),
+            Some([ax, ay, bx, by]) if random.chance(15) => {
+                points.extend([2 * bx - ax, 2 * by - ay].map(|n| n.clamp(-LIMIT, LIMIT)))
+            }
+            _ => points.extend([x, y]),
+        }
+    }
+    let (join, closed) = (random.between(0, 1), random.between(0, 1));
+    let head = [6, random.between(1, 8), radius, join, closed];
+    let mut numbers = head.to_vec();
+    numbers.push(points.len() as i64);
+    numbers.extend(points);
+    line(&numbers)
+}
+
+pub(super) fn path(random: &mut Random) -> Vec<Triple> {
     match random.below(10) {
         0..4 => away_and_back(random),
         4..7 => crowd(random),

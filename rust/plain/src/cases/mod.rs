@@ -4,6 +4,7 @@ pub mod arcs;
 pub mod calls;
 pub mod closing;
 pub mod numbers;
+pub mod reasons;
 
 /// A case: numbers with one space between them.
 fn line<T: ToString>(numbers: &[T]) -> String {

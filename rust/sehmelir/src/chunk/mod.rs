@@ -25,7 +25,7 @@ use std::ops::Range;
 /// // a vertex replaced where the outline stands, within its own bytes
 /// replace(chunk.outline_mut(412)?, 1, 20, 3, 4)?;
 /// let mut path = [0; 6];
-/// assert_eq!(read(chunk.outline(412)?, &mut path)?, (2, 2));
+/// assert_eq!(read(chunk.outline(412)?, &mut path)?.vertices, 2);
 /// assert_eq!(path, [0, 0, 5, 20, 3, 4]);
 /// assert_eq!(chunk.outline(7)?, post);
 ///

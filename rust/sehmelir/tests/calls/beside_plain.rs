@@ -5,10 +5,13 @@ use crate::lent::{self, room};
 use crate::making::{Maker, Path};
 use plain::calls::Reply;
 use plain::contacts::Vertex;
-use sehmelir::Refusal;
+use sehmelir::{Form, Join, Kept, Refusal, Style};
 
-/// How many generated cases each call is compared on.
-const CASES: usize = 5_000;
+/// How many generated cases each call is compared on: `CASES` in the
+/// environment, if they should be more than some thousands.
+pub fn cases() -> usize {
+    std::env::var("CASES").map_or(5_000, |count| count.parse().unwrap())
+}
 
 /// Most vertices of a generated path.
 const VERTICES: u64 = 12;
@@ -33,7 +36,25 @@ impl Tally {
     }
 }
 
-/// A reply of `plain` as the wrapper gives it, but for the grade.
+/// What `plain` tells beside the reply of a reading, as the wrapper gives it.
+pub fn kept(reply: Reply) -> Result<Kept, Refusal> {
+    let [radius, join, closed] = reply.style;
+    let form = match reply.kind {
+        0 => Form::Stroke,
+        _ => Form::Kerb(Style {
+            radius,
+            join: if join == 0 { Join::Bevel } else { Join::Round },
+            closed: closed == 1,
+        }),
+    };
+    answer(reply).map(|vertices| Kept {
+        vertices,
+        grade: reply.grade,
+        form,
+    })
+}
+
+/// A reply of `plain` as the wrapper gives it, but for what stands beside it.
 pub fn answer(reply: Reply) -> Result<usize, Refusal> {
     let number = reply.number as usize;
     let refusal = match reply.reply {
@@ -47,6 +68,8 @@ pub fn answer(reply: Reply) -> Result<usize, Refusal> {
         7 => Refusal::Kind(reply.number.try_into().unwrap()),
         8 => Refusal::NotSound(number),
         9 => Refusal::NoVertex(number),
+        11 => Refusal::StyleWord(reply.number.try_into().unwrap()),
+        12 => Refusal::OtherKind(reply.number.try_into().unwrap()),
         13 => Refusal::NotTaken(number),
         14 => Refusal::Damaged,
         15 => Refusal::KeyThere(reply.number.try_into().unwrap()),
@@ -76,12 +99,11 @@ fn keep(path: &[i32], grade: u32, length: usize) -> Reply {
     reply
 }
 
-fn read(store: &[u8], length: usize) -> Reply {
+pub fn read(store: &[u8], length: usize) -> Reply {
     let mut expected = room(length);
     let (answered, out) = lent::read(store, &expected);
     let reply = plain::calls::read(store, &mut expected);
-    let with_grade = answer(reply).map(|vertices| (vertices, reply.grade));
-    assert_eq!(answered, with_grade, "read {store:?} {length}");
+    assert_eq!(answered, kept(reply), "read {store:?} {length}");
     assert!(out == expected, "read {store:?} {length}");
     reply
 }
@@ -97,7 +119,7 @@ pub fn replace(store: &[u8], index: usize, vertex: [i32; 3]) -> (Reply, Vec<u8>)
     (reply, expected)
 }
 
-fn reach(store: &[u8], index: usize) -> Reply {
+pub fn reach(store: &[u8], index: usize) -> Reply {
     let reply = plain::calls::reach(store, index);
     let answered = lent::reach(store, index);
     assert_eq!(answered, answer(reply), "reach {store:?} {index}");
@@ -131,7 +153,7 @@ fn without_edges(path: &[[i32; 3]]) -> bool {
 #[test]
 fn draws() {
     let (mut maker, mut tally) = (Maker::new(1), Tally::default());
-    for _ in 0..CASES {
+    for _ in 0..cases() {
         let (path, grade) = (maker.lent_path(VERTICES), maker.lent_grade());
         let edges = needed(plain::calls::draw(&path, grade, &mut []));
         tally.count(draw(&path, grade, maker.room(4 * edges)));
@@ -142,7 +164,7 @@ fn draws() {
 #[test]
 fn keeps() {
     let (mut maker, mut tally) = (Maker::new(2), Tally::default());
-    for _ in 0..CASES {
+    for _ in 0..cases() {
         let (path, grade) = (maker.lent_path(VERTICES), maker.lent_grade());
         let reply = plain::calls::keep(&path, grade, &mut []);
         let bytes = match reply.reply {
@@ -169,18 +191,18 @@ fn store(maker: &mut Maker, path: &Path) -> Vec<u8> {
 #[test]
 fn reads() {
     let (mut maker, mut tally) = (Maker::new(3), Tally::default());
-    for _ in 0..CASES {
+    for _ in 0..cases() {
         let path = maker.path(VERTICES);
         let store = store(&mut maker, &path);
         tally.count(read(&store, maker.room(3 * path.len())));
     }
-    tally.assert_just(&[0, 2, 3, 4, 5, 6, 7, 8]);
+    tally.assert_just(&[0, 2, 3, 4, 5, 6, 7, 8, 11]);
 }
 
 #[test]
 fn replaces() {
     let (mut maker, mut tally) = (Maker::new(4), Tally::default());
-    for _ in 0..CASES {
+    for _ in 0..cases() {
         let path = maker.path(VERTICES);
         let mut store = store(&mut maker, &path);
         let index = maker.index(path.len());
@@ -191,18 +213,18 @@ fn replaces() {
         store.resize(length, 0xEE);
         tally.count(replace(&store, index, vertex).0);
     }
-    tally.assert_just(&[0, 2, 3, 4, 5, 6, 7, 8, 9, 18]);
+    tally.assert_just(&[0, 2, 3, 4, 5, 6, 7, 8, 9, 11, 18]);
 }
 
 #[test]
 fn reaches() {
     let (mut maker, mut tally) = (Maker::new(8), Tally::default());
-    for _ in 0..CASES {
+    for _ in 0..cases() {
         let path = maker.path(VERTICES);
         let store = store(&mut maker, &path);
         tally.count(reach(&store, maker.index(path.len())));
     }
-    tally.assert_just(&[0, 2, 3, 4, 6, 7, 8, 9]);
+    tally.assert_just(&[0, 2, 3, 4, 6, 7, 8, 9, 11]);
 }
 
 /// Every vertex of paths in which thin steps follow one another, so that the
@@ -212,7 +234,7 @@ fn reaches() {
 fn reaches_past_thin_steps() {
     let mut maker = Maker::new(10);
     let (mut next, mut beyond, mut none) = (0, 0, 0);
-    for _ in 0..CASES / 5 {
+    for _ in 0..cases() / 5 {
         let (mut path, grade) = (maker.path(VERTICES), maker.grade());
         for vertex in &mut path {
             vertex[2] = maker.pick(&[0, 1, 1, 1, vertex[2]]);
@@ -410,7 +432,7 @@ fn holds_whole_arcs() {
 #[test]
 fn counts_by_leaps() {
     let mut maker = Maker::new(7);
-    for _ in 0..CASES {
+    for _ in 0..cases() {
         let path = maker.path(4);
         let due = if without_edges(&path) { 18 } else { 5 };
         for grade in 5..=8 {

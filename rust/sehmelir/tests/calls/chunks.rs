@@ -135,22 +135,32 @@ impl History {
         History { maker, chunk }
     }
 
-    /// An outline, mostly a short one; bytes may go on after it, and now and
-    /// then it is damaged.
-    fn outline(&mut self) -> Vec<u8> {
+    /// A short outline of either kind.
+    fn sound_outline(&mut self) -> Vec<u8> {
         let maker = &mut self.maker;
-        let path = loop {
-            let path = maker.path(5);
+        loop {
             let grade = maker.pick(&[1, 1, 1, 2, 3]);
-            if let Ok(store) = outline(path.as_flattened(), grade) {
-                if store.len() < 900 {
-                    break store;
-                }
+            let kept = if maker.chance(25) {
+                let (points, style) = maker.kerb(5);
+                kerb(points.as_flattened(), grade, style)
+            } else {
+                outline(maker.path(5).as_flattened(), grade).unwrap_or_default()
+            };
+            if (1..900).contains(&kept.len()) {
+                return kept;
             }
-        };
-        let mut store = path;
+        }
+    }
+
+    /// An outline; bytes may go on after it, and now and then it is damaged.
+    fn outline(&mut self) -> Vec<u8> {
+        let mut store = self.sound_outline();
+        let maker = &mut self.maker;
         if maker.chance(8) {
-            maker.damage(&mut store);
+            match store[4] {
+                0 => maker.damage(&mut store),
+                _ => maker.damage_kerb(&mut store),
+            }
         }
         if maker.chance(15) {
             store.extend(lent::room::<u8>(maker.index_below(50)));
@@ -187,7 +197,11 @@ impl History {
         let Ok(range) = Chunk::over(&self.chunk).find(key) else {
             return;
         };
-        let (index, vertex) = (self.maker.index(3), self.maker.replacement(None));
+        let index = self.maker.index(2);
+        let vertex = match self.maker.chance(40) {
+            true => [9, 9, self.maker.pick(&[0, 1])],
+            false => self.maker.replacement(None),
+        };
         let (reply, written) = replace(&self.chunk[range.clone()], index, vertex);
         self.chunk[range].copy_from_slice(&written);
         tallies.replace.count(reply);
@@ -239,6 +253,15 @@ impl History {
     }
 }
 
+/// The outline of a kerb, if it is kept.
+fn kerb(points: &[i32], grade: u32, style: [u32; 3]) -> Vec<u8> {
+    let needed = plain::calls::keep_kerb(points, grade, style, &mut []);
+    let mut kept = vec![0; needed.number as usize];
+    let reply = plain::calls::keep_kerb(points, grade, style, &mut kept);
+    kept.truncate(if reply.reply == 0 { kept.len() } else { 0 });
+    kept
+}
+
 /// The entries of a table that is there.
 fn offsets(chunk: &[u8]) -> Vec<Entry> {
     chunks::entries(chunk).unwrap_or_default()
@@ -258,11 +281,11 @@ fn histories() {
     }
     tallies
         .add
-        .assert_just(&[0, 2, 3, 4, 5, 6, 7, 8, 14, 15, 17]);
+        .assert_just(&[0, 2, 3, 4, 5, 6, 7, 8, 11, 14, 15, 17]);
     tallies.find.assert_just(&[0, 14, 16]);
     tallies.remove.assert_just(&[0, 14, 16]);
     tallies.compact.assert_just(&[0, 14]);
-    tallies.replace.assert_just(&[0, 4, 5, 9, 18]);
+    tallies.replace.assert_just(&[0, 4, 5, 9, 12, 18]);
     assert!(tallies.compacting_adds > 100);
 }
 

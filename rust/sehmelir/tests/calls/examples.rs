@@ -1,7 +1,7 @@
 //! Document 01, "Marked examples, grade 1".
 
 use crate::lent::{draw, keep, reach, read, replace, room};
-use sehmelir::{edges, outline, Refusal};
+use sehmelir::{edges, outline, Form, Kept, Refusal};
 
 /// A path, and how many edges each vertex and the closing have.
 type Example = (&'static [[i32; 3]], &'static [usize]);
@@ -136,7 +136,12 @@ fn read_gives_the_path() {
         store.extend([7; 5]);
         let room = room(numbers.len() + 2);
         let (answer, out) = read(&store, &room);
-        assert_eq!(answer, Ok((path.len(), 1)), "{path:?}");
+        let kept = Kept {
+            vertices: path.len(),
+            grade: 1,
+            form: Form::Stroke,
+        };
+        assert_eq!(answer, Ok(kept), "{path:?}");
         assert_eq!(out[..numbers.len()], *numbers, "{path:?}");
         assert_eq!(out[numbers.len()..], room[numbers.len()..], "{path:?}");
     }

@@ -1,6 +1,6 @@
 //! The calls on memory between canaries.
 
-use sehmelir::{Chunk, Refusal};
+use sehmelir::{Chunk, Join, Kept, Refusal, Style};
 use std::fmt::Debug;
 use std::ops::Range;
 
@@ -62,7 +62,134 @@ pub fn keep(path: &[i32], grade: u32, room: &[u8]) -> Outcome<usize, u8> {
     })
 }
 
-pub fn read(store: &[u8], room: &[i32]) -> Outcome<(usize, u32), i32> {
+/// A style's three words, of any size, as C hands them over.
+pub type StyleWords = [u32; 3];
+
+/// What C gets of a call with such words.
+#[repr(C)]
+struct Reply {
+    reply: u32,
+    grade: u32,
+    number: u64,
+}
+
+extern "C" {
+    fn sehmelir_draw_kerb(
+        points: *const i32,
+        points_len: usize,
+        grade: u32,
+        radius: u32,
+        join: u32,
+        closed: u32,
+        out: *mut i32,
+        out_len: usize,
+    ) -> Reply;
+
+    fn sehmelir_keep_kerb(
+        points: *const i32,
+        points_len: usize,
+        grade: u32,
+        radius: u32,
+        join: u32,
+        closed: u32,
+        out: *mut u8,
+        out_len: usize,
+    ) -> Reply;
+}
+
+/// The style of words, where join and closed are within their ranges.
+fn style([radius, join, closed]: StyleWords) -> Option<Style> {
+    let join = match join {
+        0 => Join::Bevel,
+        1 => Join::Round,
+        _ => return None,
+    };
+    (closed < 2).then_some(Style {
+        radius,
+        join,
+        closed: closed == 1,
+    })
+}
+
+/// A kerb's call: the wrapper's where the words are a style, else as C makes it,
+/// the reply and its number as an error then.
+fn kerb_call<T>(
+    words: StyleWords,
+    out: &mut [T],
+    wrapped: impl FnOnce(Style, &mut [T]) -> Result<usize, Refusal>,
+    raw: impl FnOnce(&mut [T]) -> Reply,
+) -> Result<usize, (u32, u64)> {
+    if let Some(style) = style(words) {
+        return wrapped(style, out).map_err(|refusal| (refusal.reply(), number(refusal)));
+    }
+    let Reply {
+        reply,
+        grade,
+        number,
+    } = raw(out);
+    assert_eq!(grade, 0);
+    match reply {
+        0 => Ok(number as usize),
+        reply => Err((reply, number)),
+    }
+}
+
+/// The number with a refusal of a kerb's call.
+fn number(refusal: Refusal) -> u64 {
+    match refusal {
+        Refusal::Grade(word) | Refusal::StyleWord(word) => word as u64,
+        Refusal::Uneven(number)
+        | Refusal::TooMany(number)
+        | Refusal::Outside(number)
+        | Refusal::NoRoom(number)
+        | Refusal::WithoutEdges(number) => number as u64,
+        other => panic!("{other:?} is no refusal of a kerb's call"),
+    }
+}
+
+/// What a kerb's call answers, or the reply and its number; and the room
+/// afterwards.
+pub type KerbOutcome<T> = (Result<usize, (u32, u64)>, Vec<T>);
+
+pub fn draw_kerb(points: &[i32], grade: u32, words: StyleWords, room: &[i32]) -> KerbOutcome<i32> {
+    let [radius, join, closed] = words;
+    lend_to_read(points, |points| {
+        lend(room, |out| {
+            let (from, count) = (points.as_ptr(), points.len());
+            kerb_call(
+                words,
+                out,
+                |style, out| sehmelir::draw_kerb(points, grade, style, out),
+                // SAFETY: pointers and lengths are those of slices
+                |out| unsafe {
+                    let (to, room) = (out.as_mut_ptr(), out.len());
+                    sehmelir_draw_kerb(from, count, grade, radius, join, closed, to, room)
+                },
+            )
+        })
+    })
+}
+
+pub fn keep_kerb(points: &[i32], grade: u32, words: StyleWords, room: &[u8]) -> KerbOutcome<u8> {
+    let [radius, join, closed] = words;
+    lend_to_read(points, |points| {
+        lend(room, |out| {
+            let (from, count) = (points.as_ptr(), points.len());
+            kerb_call(
+                words,
+                out,
+                |style, out| sehmelir::keep_kerb(points, grade, style, out),
+                // SAFETY: pointers and lengths are those of slices
+                |out| unsafe {
+                    let (to, room) = (out.as_mut_ptr(), out.len());
+                    sehmelir_keep_kerb(from, count, grade, radius, join, closed, to, room)
+                },
+            )
+        })
+    })
+}
+
+pub fn read(store: &[u8], room: &[i32]) -> Outcome<Kept, i32> {
     lend_to_read(store, |store| lend(room, |out| sehmelir::read(store, out)))
 }
 

@@ -4,6 +4,7 @@
 mod beside_plain;
 mod chunks;
 mod examples;
+mod kerbs;
 mod lent;
 mod making;
 mod oldest;

@@ -80,6 +80,40 @@ impl Maker {
         path
     }
 
+    /// A kerb within the limits: the points of a path, and its style's words.
+    pub fn kerb(&mut self, most: u64) -> (Vec<[i32; 2]>, [u32; 3]) {
+        let path = self.path(most);
+        let points = path.iter().map(|&[x, y, _]| [x, y]).collect();
+        let most = self.random.pick(&[2, 6, 40, 3000, MOST]);
+        let radius = self.random.between(0, most) as u32;
+        let [join, closed] = [0; 2].map(|_| self.random.below(2) as u32);
+        (points, [radius, join, closed])
+    }
+
+    /// The numbers of a kerb, and its style's words, which now and then are to
+    /// be refused.
+    pub fn lent_kerb(&mut self, most: u64) -> (Vec<i32>, [u32; 3]) {
+        let (mut points, mut style) = self.kerb(most);
+        let past = MOST as u32 + 1;
+        if self.chance(6) {
+            let place = self.index_below(3);
+            style[place] = self.random.pick(&[2, 256, past, u32::MAX]);
+        }
+        if self.chance(8) && !points.is_empty() {
+            let place = self.index_below(points.len());
+            let side = self.index_below(2);
+            points[place][side] = self.random.pick(&[past as i32, -(past as i32), i32::MIN]);
+        }
+        if self.chance(1) {
+            points.resize(self.random.pick(&[4097, 5000]), [0; 2]);
+        }
+        let mut numbers = points.concat();
+        if self.chance(4) {
+            numbers.push(3);
+        }
+        (numbers, style)
+    }
+
     /// The numbers of a path that now and then is to be refused.
     pub fn lent_path(&mut self, most: u64) -> Vec<i32> {
         let mut path = self.path(most);
@@ -146,6 +180,29 @@ impl Maker {
             }
             _ => self.vertex(),
         }
+    }
+
+    /// Damages a kept kerb: a byte, a word that means something, or its length.
+    pub fn damage_kerb(&mut self, store: &mut Vec<u8>) {
+        let random = &mut self.random;
+        let past = MOST as u32 + 1;
+        let words = [0, 1, 2, 9, past, past.wrapping_neg(), u32::MAX];
+        let vertices = u32::from_le_bytes([store[12], store[13], store[14], store[15]]) as u64;
+        let (place, word) = match random.below(8) {
+            0 => (random.below(8), random.pick(&words)),
+            1 => (5 + random.below(3), random.pick(&words)),
+            2 => (8 + random.below(2 * vertices + 3), random.pick(&words)),
+            3 => (3, random.pick(&[vertices as u32 + 1, 0, 4096, 4097])),
+            4 => return store.truncate(random.below(store.len() as u64) as usize),
+            5 => return store.truncate(random.pick(&[0, 23, 24, 43, store.len() - 1])),
+            _ => {
+                let at = random.below(store.len() as u64) as usize;
+                store[at] = store[at].wrapping_add(random.between(1, 255) as u8);
+                return;
+            }
+        };
+        let at = 4 * place as usize;
+        store[at..at + 4].copy_from_slice(&word.to_le_bytes());
     }
 
     /// Damages a store: a byte, a word that means something, or its length.

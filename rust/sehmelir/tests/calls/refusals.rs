@@ -68,7 +68,37 @@ fn of_stores() {
         (store(&[], 0), Refusal::NotOutline),
         (store(&[1, 0, 1, 0, 0], 3), Refusal::NotOutline),
         (store(&[2, 1, 9, 4097, 0, 0], 0), Refusal::NotOutline),
-        (store(&[1, 1, 9, 4097, 0, 0], 0), Refusal::Kind(1)),
+        (store(&[1, 2, 9, 4097, 0, 0], 0), Refusal::Kind(2)),
+        (store(&[1, 1, 9, 4097, 0, 0], 19), Refusal::NotOutline),
+        (store(&[1, 1, 9, 4097, 0, FAR, 2, 2], 12), Refusal::Grade(9)),
+        (
+            store(&[1, 1, 8, 4097, 0, FAR, 2, 2], 12),
+            Refusal::StyleWord(5),
+        ),
+        (
+            store(&[1, 1, 8, 4097, 0, 5, -1, 2], 12),
+            Refusal::StyleWord(6),
+        ),
+        (
+            store(&[1, 1, 8, 4097, 0, 5, 1, 2], 12),
+            Refusal::StyleWord(7),
+        ),
+        (
+            store(&[1, 1, 8, 4097, 0, 5, 1, 1], 12),
+            Refusal::TooMany(4097),
+        ),
+        (
+            store(&[1, 1, 8, 1, 0, 5, 1, 1, FAR, 0, 0, 0], 3),
+            Refusal::NotOutline,
+        ),
+        (
+            store(&[1, 1, 8, 1, 0, 5, 1, 1, 0, -FAR, 7, 0, 0], 0),
+            Refusal::Outside(0),
+        ),
+        (
+            store(&[1, 1, 8, 1, 0, 5, 1, 1, 0, 0, 0, 256, 0], 0),
+            Refusal::NotSound(45),
+        ),
         (store(&[1, -1, 9, 4097, 0, 0], 0), Refusal::Kind(u32::MAX)),
         (store(&[1, 0, 9, 4097, 0, 0], 0), Refusal::Grade(9)),
         (store(&[1, 0, 0, 4097, 0, 0], 0), Refusal::Grade(0)),
@@ -173,7 +203,8 @@ fn of_rooms() {
         let room = room(length);
         assert_refused(read(&store, &room), &room, Refusal::NoRoom(1));
     }
-    assert_eq!(read(&store, &room(3)).0, Ok((1, 1)));
+    let kept = read(&store, &room(3)).0.unwrap();
+    assert_eq!((kept.vertices, kept.grade), (1, 1));
     let point = self::store(&[1, 0, 1, 1, 0, 0, 0, 1, 0, 0], 0);
     for more in [0, 1, 127] {
         let store = [&point, room(more).as_slice()].concat();
@@ -188,7 +219,7 @@ fn say_why() {
     let table = [
         (
             Refusal::Uneven(4),
-            "a path of 4 numbers is not made of triples",
+            "4 numbers are no path of triples and no kerb of pairs",
         ),
         (Refusal::TooMany(4097), "4097 vertices are above 4096"),
         (Refusal::Grade(9), "grade 9 is not 1 to 8"),
@@ -202,12 +233,20 @@ fn say_why() {
             Refusal::NotOutline,
             "the store is too short or not of edition 1",
         ),
-        (Refusal::Kind(1), "kind 1 is not 0"),
+        (Refusal::Kind(2), "kind 2 is neither 0 nor 1"),
         (
             Refusal::NotSound(50),
             "the outline is not sound, first at byte 50",
         ),
         (Refusal::NoVertex(2), "the outline has no vertex 2"),
+        (
+            Refusal::StyleWord(5),
+            "a kerb's radius is outside its range",
+        ),
+        (
+            Refusal::OtherKind(1),
+            "an outline of kind 1 is not changed so",
+        ),
         (Refusal::NotTaken(5), "the number at place 5 is not taken"),
         (Refusal::Damaged, "the chunk's table is damaged"),
         (Refusal::KeyThere(7), "key 7 is in the chunk already"),
@@ -221,7 +260,7 @@ fn say_why() {
             "a path of 3 vertices has no edges",
         ),
     ];
-    let replies = (1..=9).chain(13..=18);
+    let replies = (1..=9).chain(11..=18);
     for ((refusal, text), reply) in table.into_iter().zip(replies) {
         let error: &dyn Error = &refusal;
         assert_eq!(error.to_string(), text);

@@ -1,13 +1,14 @@
 //! How much stack the calls take.
 
-use sehmelir::{draw, keep, outline, reach, read, replace, Chunk, Refusal};
+use sehmelir::{draw, draw_kerb, keep, keep_kerb, kerb_bytes, outline, reach, read, replace};
+use sehmelir::{Chunk, Join, Refusal, Style};
 use std::thread::Builder;
 
-/// What draw may take, and some for the thread that calls it.
+/// What draw and draw_kerb may take, and some for the thread that calls them.
 const FOR_DRAW: usize = sehmelir::STACK + 32 * 1024;
 
-/// What keep, read, replace, reach and a chunk's add may take, and as much for
-/// the thread.
+/// What keep, keep_kerb, read, replace, reach and a chunk's add may take, and as
+/// much for the thread.
 const FOR_OTHERS: usize = (256 + 32) * 1024;
 
 /// What a chunk's find, remove and compact may take, and as much for the
@@ -39,7 +40,8 @@ fn is_at_most_what_is_said() {
             assert_eq!(keep(&path, grade, &mut store), Ok(bytes));
             assert!(replace(&mut store, vertices / 2, 7, 8, 9).is_ok());
             let mut numbers = vec![0; path.len()];
-            assert_eq!(read(&store, &mut numbers), Ok((vertices, grade)));
+            let kept = read(&store, &mut numbers).unwrap();
+            assert_eq!((kept.vertices, kept.grade), (vertices, grade));
             assert_eq!(reach(&store, 0), Ok(2));
         });
     }
@@ -67,6 +69,39 @@ fn of_chunks_is_at_most_what_is_said() {
         assert_eq!(chunk.remove(0), Ok(168));
         assert!(chunk.compact().is_ok());
     });
+}
+
+/// The same of kerbs.
+#[test]
+fn of_kerbs_is_too() {
+    let style = Style {
+        radius: 600,
+        join: Join::Round,
+        closed: true,
+    };
+    for (count, grade) in [(4096, 1), (40, 8), (4096, 8)] {
+        let vertex = |place: i32| [2000 * (place % 90), 700 * (place % 7) + place];
+        let points: Vec<i32> = (0..count).flat_map(vertex).collect();
+        let lent = points.clone();
+        let edges = on_a_stack_of(FOR_DRAW, move || {
+            let Err(Refusal::NoRoom(edges)) = draw_kerb(&lent, grade, style, &mut []) else {
+                panic!("nothing drawn");
+            };
+            let mut numbers = vec![0; 4 * edges];
+            assert_eq!(draw_kerb(&lent, grade, style, &mut numbers), Ok(edges));
+            edges
+        });
+        on_a_stack_of(FOR_OTHERS, move || {
+            let bytes = kerb_bytes(count as usize, edges);
+            let mut store = vec![0; bytes];
+            assert_eq!(keep_kerb(&points, grade, style, &mut store), Ok(bytes));
+            let mut numbers = vec![0; points.len()];
+            assert_eq!(read(&store, &mut numbers).unwrap().grade, grade);
+            assert_eq!(numbers, points);
+            assert_eq!(replace(&mut store, 0, 7, 8, 9), Err(Refusal::OtherKind(1)));
+            assert_eq!(reach(&store, 0), Err(Refusal::OtherKind(1)));
+        });
+    }
 }
 
 /// What `calls` gives, in a thread of its own.

@@ -1,6 +1,6 @@
 -- `editing::replacing::replace_with` meets its contract: a refusal is that of the shared rows; in a store that passed them the vertex is changed. Assumes nothing.
 use borrow.Author.Needs.{needs}
-use Rattle.editing.proofs.KnownStore.{known, replace-refused}
+use Rattle.editing.proofs.KnownStore.{passed, replace-refused}
 use Rattle.editing.proofs.replacing.replace_with.Statement.{statement}
 use Rattle.editing.proofs.replacing.replace_with.Tie as tie
 
@@ -13,8 +13,8 @@ enum-known-checked c = search needs
 enum-known-checked-2 : tie.Need-enum-known-checked-2
 enum-known-checked-2 c = search needs
 
-change-requires : tie.Need-change-requires
-change-requires c κs = (known (c .before .before .before .before .checked2 .given .1) (c .before .before .before .before .before .before .before .before .check .ensures), search needs)
+change-stroke-requires : tie.Need-change-stroke-requires
+change-stroke-requires c κs = (passed (c .before .before .before .before .checked2 .given .1) (c .before .before .before .before .before .before .before .before .check .ensures), search needs)
 
 same-length : tie.Need-same-length
 same-length c = search needs
@@ -47,7 +47,7 @@ replace-with-spec =
     check-requires
     enum-known-checked
     enum-known-checked-2
-    change-requires
+    change-stroke-requires
     same-length
     same-length-2
     same-length-3

@@ -4,6 +4,7 @@ use borrow.Author.Needs.{needs}
 use native.Mathlib.Omega.{arith}
 use Rattle.paths.specs.Paths.{pathOf}
 use Rattle.outline.proofs.ReadBack.{few-edges}
+use Rattle.outline.specs.declared.Form.the-variants.{Stroke}
 use Rattle.keeping.proofs.Whole.{outline-written}
 use Rattle.keeping.proofs.filling.outline.Statement.{statement}
 use Rattle.keeping.proofs.filling.outline.Tie as tie
@@ -12,7 +13,7 @@ cast-put-header : tie.Need-cast-put-header
 cast-put-header c = search needs
 
 cast-put-header-2 : tie.Need-cast-put-header-2
-cast-put-header-2 c = omega (arith, c .before .before .pre .1, few-edges (c .before .before .args .grade) (pathOf (c .before .before .args .path .now)) (c .before .before .pre .0 .1 .count))
+cast-put-header-2 c = omega (arith, c .before .before .pre .1, few-edges Stroke (c .before .before .args .grade) (pathOf (c .before .before .args .path .now)) (c .before .before .pre .0 .1 .count))
 
 put-header-requires : tie.Need-put-header-requires
 put-header-requires c κs = search needs

@@ -2,7 +2,8 @@
 use borrow.Author.Needs.{needs}
 use native.Mathlib.Omega.{arith}
 use Rattle.words.proofs.OneWord.{word-room}
-use Rattle.outline.proofs.Parts.{word-end, header-run}
+use Rattle.outline.proofs.Parts.{word-end, header-run, stroke-style}
+use Rattle.outline.specs.declared.Form.the-variants.{Stroke}
 use Rattle.keeping.proofs.filling.put_header.Statement.{statement}
 use Rattle.keeping.proofs.filling.put_header.Tie as tie
 
@@ -25,7 +26,7 @@ same-length : tie.Need-same-length
 same-length c = search needs
 
 returns : tie.Need-returns
-returns c = header-run (c .before .before .before .before .before .before .before .before .before .before .before .before .before .before .before .before .before .before .put-word .ensures) (c .before .before .before .before .before .before .before .before .before .before .before .before .before .before .put-word2 .ensures) (c .before .before .before .before .before .before .before .before .before .before .put-word3 .ensures) (c .before .before .before .before .before .before .put-word4 .ensures) (c .before .before .put-word5 .ensures)
+returns c = header-run Stroke (c .before .before .before .before .before .before .before .before .before .before .before .before .before .before .before .before .before .before .put-word .ensures) (c .before .before .before .before .before .before .before .before .before .before .before .before .before .before .put-word2 .ensures) (c .before .before .before .before .before .before .before .before .before .before .put-word3 .ensures) (c .before .before .before .before .before .before .put-word4 .ensures) (c .before .before .put-word5 .ensures) stroke-style
 
 pub put-header-spec : {M : Type 1} → statement M
 put-header-spec =

@@ -1,6 +1,7 @@
 -- `reaching::reach::reach_with` meets its contract: a refusal is that of the shared rows; else the store's path is walked. Assumes nothing.
 use borrow.Author.Needs.{needs}
-use Rattle.reaching.proofs.StoreReach.{path-held, reach-refused, reach-passed}
+use Rattle.reaching.proofs.StoreReach.{reach-refused}
+use Rattle.editing.proofs.KnownStore.{passed}
 use Rattle.reaching.proofs.reach.reach_with.Statement.{statement}
 use Rattle.reaching.proofs.reach.reach_with.Tie as tie
 
@@ -13,8 +14,8 @@ enum-known-checked c = search needs
 enum-known-checked-2 : tie.Need-enum-known-checked-2
 enum-known-checked-2 c = search needs
 
-reach-in-requires : tie.Need-reach-in-requires
-reach-in-requires c κs = path-held (c .before .before .checked2 .given .1) (c .before .before .before .before .before .before .check .ensures)
+reach-stroke-requires : tie.Need-reach-stroke-requires
+reach-stroke-requires c κs = passed (c .before .before .checked2 .given .1) (c .before .before .before .before .before .before .check .ensures)
 
 same-length : tie.Need-same-length
 same-length c = search needs
@@ -32,7 +33,7 @@ same-length-4 : tie.Need-same-length-4
 same-length-4 c = search needs
 
 returns-2 : tie.Need-returns-2
-returns-2 c = reach-passed (c .before .before .before .checked2 .given .1) (c .before .before .before .before .before .before .before .check .ensures) _ (c .reach-in .ensures)
+returns-2 c = c .reach-stroke .ensures
 
 pub reach-with-spec : {M : Type 1} → statement M
 reach-with-spec =
@@ -41,7 +42,7 @@ reach-with-spec =
     check-requires
     enum-known-checked
     enum-known-checked-2
-    reach-in-requires
+    reach-stroke-requires
     same-length
     same-length-2
     returns

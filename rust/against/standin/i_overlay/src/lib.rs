@@ -1,8 +1,9 @@
 //! The frame round the crate's own text: its modules, and the little that the
 //! text names and that is in files of the overlay engine or not at hand. Every
 //! file that is named here without a body is the crate's own, unchanged, but
-//! for `stroke`; below `arc` and `math` there is a `float` that is not. The
-//! marks are those of the stand-in for i_float.
+//! for `stroke` and `kerb`; below `arc` and `math` there is a `float` that is
+//! not, and below `stroke` a `bounds`. The marks are those of the stand-in for
+//! i_float.
 
 // The text has more than the variable-width stroke uses.
 #![allow(dead_code, unused_imports)]
@@ -49,7 +50,20 @@ pub mod mesh {
 
     pub mod int {
         pub mod arc;
+        mod join;
         pub(crate) mod math;
+        pub mod style;
+
+        pub mod stroke {
+            mod bounds;
+            mod builder;
+            mod builder_join;
+            mod cap;
+            mod kerb;
+            mod section;
+
+            pub use kerb::Kerb;
+        }
 
         pub mod variable_stroke {
             mod builder;

@@ -1,0 +1,3 @@
+-- The laws.
+pub mod Answers
+pub mod OneAnswer

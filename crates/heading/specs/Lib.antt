@@ -1,0 +1,4 @@
+-- What the contracts cite.
+pub mod Heads
+pub mod Shows
+pub mod StoreRows

@@ -1,0 +1,9 @@
+-- The laws.
+pub mod Pieces
+pub mod OneReason
+pub mod Counted
+pub mod Listed
+pub mod Whys
+pub mod OneEdge
+pub mod PathList
+pub mod Emits

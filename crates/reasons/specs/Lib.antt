@@ -1,0 +1,4 @@
+-- Document 02, request 1: what the contracts cite.
+pub mod Reasons
+pub mod Lists
+pub mod Counts
