@@ -47,7 +47,7 @@
  * Lent memory, for all calls:
  *
  * - Lengths count elements: int32_t in a path or in edges, float in the oldest
- *   chunks, bytes in a store or a chunk.
+ *   chunks, size_t in a list of reasons, bytes in a store or a chunk.
  * - A pointer is never null and is aligned for its type, even where the length
  *   is 0. Where there is nothing to lend, pass the address of any variable of
  *   the type, and 0:
@@ -69,7 +69,8 @@
  * The calls allocate nothing, keep nothing between calls, and may run in
  * several threads at once. On the stack sehmelir_draw and sehmelir_draw_kerb
  * take up to 528 KiB, sehmelir_keep, sehmelir_keep_kerb, sehmelir_read,
- * sehmelir_replace, sehmelir_reach and sehmelir_chunk_add up to 256 KiB, and
+ * sehmelir_replace, sehmelir_reach, sehmelir_explain, sehmelir_list and
+ * sehmelir_chunk_add up to 256 KiB, and
  * sehmelir_chunk_find, sehmelir_chunk_remove and sehmelir_chunk_compact up to
  * 32 KiB, so a thread that calls them needs more than that; the others take
  * below 1 KiB.
@@ -125,6 +126,7 @@ enum sehmelir_reply_number {
     SEHMELIR_KIND = 7,          /* the outline's kind is neither 0 nor 1 */
     SEHMELIR_NOT_SOUND = 8,     /* the outline is not sound */
     SEHMELIR_NO_VERTEX = 9,     /* the outline has no vertex of that index */
+    SEHMELIR_NO_EDGE = 10,      /* the outline has no edge of that number */
     SEHMELIR_STYLE_WORD = 11,   /* radius, join or closed is out of range */
     SEHMELIR_OTHER_KIND = 12,   /* the outline is not of the kind asked for */
     SEHMELIR_NOT_TAKEN = 13,    /* a number of the oldest chunks is not taken */
@@ -415,6 +417,89 @@ struct sehmelir_reply sehmelir_replace(uint8_t *store, size_t store_len,
  */
 struct sehmelir_reply sehmelir_reach(const uint8_t *store, size_t store_len,
                                      size_t index);
+
+/*
+ * Why an edge is there, by number: the rule that draws it. A circle within a cap
+ * or a join bears the name of that cap or join.
+ */
+enum sehmelir_edge_reason {
+    SEHMELIR_LEFT_SIDE = 0,  /* the left side of the section to a vertex */
+    SEHMELIR_RIGHT_SIDE = 1, /* its right side */
+    SEHMELIR_START_CAP = 2,  /* the cap at a chain's start */
+    SEHMELIR_END_CAP = 3,    /* the cap at a chain's end */
+    SEHMELIR_LEFT_JOIN = 4,  /* the left join of two sections */
+    SEHMELIR_RIGHT_JOIN = 5, /* their right join */
+    SEHMELIR_GAP = 6,        /* the caps of a join whose centres differ */
+    SEHMELIR_CIRCLE = 7      /* the circle of a vertex by itself */
+};
+
+/* Why an edge is there. After a refusal all but the first and the third are 0. */
+struct sehmelir_reason {
+    uint32_t reply;  /* one of enum sehmelir_reply_number */
+    uint32_t reason; /* one of enum sehmelir_edge_reason */
+    uint64_t number; /* what it means stands with each reply, below */
+    uint64_t vertex; /* the vertex on reaching which the edge is drawn; the
+                        number of vertices if it is drawn at the end */
+    uint64_t place;  /* how many edges the rule drew there before it */
+};
+
+/*
+ * Tells why the edge of the given number, counted from 0, is there in a sound
+ * outline. No two edges of an outline have the same reason, vertex and place.
+ *
+ * The first of these that applies is the reply:
+ *
+ *     6 SEHMELIR_NOT_OUTLINE  store_len is below 24, or the edition is not 1
+ *                             number: 0
+ *     7 SEHMELIR_KIND         the kind is neither 0 nor 1
+ *                             number: the kind
+ *     6 SEHMELIR_NOT_OUTLINE  the kind is 1 and store_len is below 44
+ *                             number: 0
+ *     3 SEHMELIR_GRADE        the grade in the store is not 1 to 8
+ *                             number: that grade
+ *    11 SEHMELIR_STYLE_WORD   of a kerb, radius, join or closed is out of range
+ *                             number: the place of the first such word, 5, 6
+ *                             or 7
+ *     2 SEHMELIR_TOO_MANY     the store says that it has above 4,096 vertices
+ *                             number: the vertices
+ *     6 SEHMELIR_NOT_OUTLINE  store_len is below the bytes that the vertices
+ *                             and edges in the header ask for
+ *                             number: 0
+ *     4 SEHMELIR_OUTSIDE      a vertex in the store lies outside the limits
+ *                             number: the index of the first such vertex
+ *     8 SEHMELIR_NOT_SOUND    the outline is not what its own vertices and
+ *                             grade, and style, give
+ *                             number: the index of the first byte that differs
+ *    12 SEHMELIR_OTHER_KIND   the outline is of a kerb
+ *                             number: its kind, 1
+ *    10 SEHMELIR_NO_EDGE      the number is not below the edges
+ *                             number: the edge's number
+ *     0 SEHMELIR_DONE         beside the reply stand reason, vertex and place
+ *                             number: the edge's number
+ *
+ * The store is only read. Takes up to 256 KiB of stack.
+ */
+struct sehmelir_reason sehmelir_explain(const uint8_t *store, size_t store_len,
+                                        size_t edge);
+
+/*
+ * Lists why each edge of a sound outline is there, in the edges' order, three
+ * numbers an edge in `out`: reason, vertex and place, as sehmelir_explain tells
+ * them. The time that it takes grows with the edges.
+ *
+ * The first of these that applies is the reply:
+ *
+ *     6, 7, 6, 3, 11, 2, 6, 4, 8, 12
+ *                             those of sehmelir_explain, but 10
+ *     5 SEHMELIR_NO_ROOM      out_len is below three times the edges
+ *                             number: the edges that there are
+ *     0 SEHMELIR_DONE         the reasons stand in `out`, three numbers each
+ *                             number: the edges
+ *
+ * The store is only read. Takes up to 256 KiB of stack.
+ */
+struct sehmelir_reply sehmelir_list(const uint8_t *store, size_t store_len,
+                                    size_t *out, size_t out_len);
 
 /* Why a float is not taken, by number: the first that applies, in this order. */
 enum sehmelir_reason_number {

@@ -1,7 +1,7 @@
 /*
  * The calls from C, on one path: document 01's example 5, and how far a vertex
- * reaches on a few more; then kerbs, the oldest chunks, and many outlines in one
- * chunk. One line for each check; the exit status is 1 if one of them fails.
+ * reaches on a few more; then why its edges are there, kerbs, the oldest chunks,
+ * and many outlines in one chunk. One line for each check; the exit status is 1 if one of them fails.
  */
 #include "sehmelir.h"
 
@@ -288,7 +288,68 @@ static void check_reach(void) {
     check_reach_of(gap, 9, 0, 3, "reach where only a thin step follows");
 }
 
-/* The outline with one word changed: read, replace, reach refuse it alike. */
+static void check_reason(struct sehmelir_reason given, uint32_t reply,
+                         uint64_t number, const size_t why[3],
+                         const char *what) {
+    struct sehmelir_reply front = {given.reply, 0, given.number};
+    check_reply(front, reply, number, 0, what);
+    if (given.reason != why[0] || given.vertex != why[1] ||
+        given.place != why[2])
+        check(false, "  with its reason, vertex and place");
+}
+
+/* beside a refusal */
+static const size_t unnamed[3] = {0, 0, 0};
+
+static void check_explain(void) {
+    static const size_t whys[EDGES][3] = {
+        {SEHMELIR_LEFT_SIDE, 1, 0}, {SEHMELIR_RIGHT_SIDE, 1, 0},
+        {SEHMELIR_START_CAP, 1, 0}, {SEHMELIR_START_CAP, 1, 1},
+        {SEHMELIR_START_CAP, 1, 2}, {SEHMELIR_START_CAP, 1, 3},
+        {SEHMELIR_END_CAP, 2, 0},   {SEHMELIR_END_CAP, 2, 1},
+        {SEHMELIR_END_CAP, 2, 2},   {SEHMELIR_END_CAP, 2, 3},
+    };
+    struct bytes store, same;
+    fill(&store, sizeof store);
+    put_outline(store.lent);
+    same = store;
+
+    for (size_t edge = 0; edge < EDGES; edge++)
+        check_reason(sehmelir_explain(store.lent, OUTLINE + SPARE, edge),
+                     SEHMELIR_DONE, edge, whys[edge], "an edge is explained");
+    check_reason(sehmelir_explain(store.lent, OUTLINE, EDGES),
+                 SEHMELIR_NO_EDGE, EDGES, unnamed, "there is no eleventh edge");
+    check_reason(sehmelir_explain(store.lent, OUTLINE, SIZE_MAX),
+                 SEHMELIR_NO_EDGE, SIZE_MAX, unnamed,
+                 "nor one of the largest number");
+    check_reason(sehmelir_explain(store.lent, OUTLINE - 1, 0),
+                 SEHMELIR_NOT_OUTLINE, 0, unnamed,
+                 "explain in a store one byte short");
+
+    size_t out[CANARIES + 3 * EDGES + CANARIES];
+    size_t expected[CANARIES + 3 * EDGES + CANARIES];
+    fill(out, sizeof out);
+    memcpy(expected, out, sizeof out);
+    check_reply(sehmelir_list(store.lent, OUTLINE, out + CANARIES, 0),
+                SEHMELIR_NO_ROOM, EDGES, 0, "a list without room");
+    check_reply(
+        sehmelir_list(store.lent, OUTLINE, out + CANARIES, 3 * EDGES - 1),
+        SEHMELIR_NO_ROOM, EDGES, 0, "a list one number short");
+    check(memcmp(out, expected, sizeof out) == 0,
+          "these refusals change nothing");
+    check_reply(sehmelir_list(store.lent, OUTLINE, out + CANARIES, 3 * EDGES),
+                SEHMELIR_DONE, EDGES, 0, "all edges are listed");
+    check_reply(
+        sehmelir_list(store.lent, OUTLINE, out + CANARIES, 3 * EDGES + 2),
+        SEHMELIR_DONE, EDGES, 0, "and again, with room to spare");
+    memcpy(expected + CANARIES, whys, sizeof whys);
+    check(memcmp(out, expected, sizeof out) == 0,
+          "each with its reason, and nothing else changed");
+    check(memcmp(&store, &same, sizeof store) == 0,
+          "the store is as it was");
+}
+
+/* The outline with one word changed: the calls over a store refuse it alike. */
 static void check_damaged(int place, int32_t word, uint32_t reply,
                           uint64_t number, const char *what) {
     struct bytes store, damaged;
@@ -306,6 +367,11 @@ static void check_damaged(int place, int32_t word, uint32_t reply,
                 number, 0, "  and replace refuses it alike");
     check_reply(sehmelir_reach(store.lent, OUTLINE, 9), reply, number, 0,
                 "  and so does reach");
+    check_reason(sehmelir_explain(store.lent, OUTLINE, 99), reply, number,
+                 unnamed, "  and explain");
+    size_t none = 0;
+    check_reply(sehmelir_list(store.lent, OUTLINE, &none, 0), reply, number, 0,
+                "  and list");
     check(memcmp(&store, &damaged, sizeof store) == 0 &&
               memcmp(&out, &same, sizeof out) == 0,
           "  and nothing is changed");
@@ -402,6 +468,11 @@ static void check_keep_kerb(void) {
                 SEHMELIR_OTHER_KIND, 1, 0, "a kerb's vertex is not replaced");
     check_reply(sehmelir_reach(store.lent, 124, 9), SEHMELIR_OTHER_KIND, 1, 0,
                 "and does not reach");
+    check_reason(sehmelir_explain(store.lent, 124, 99), SEHMELIR_OTHER_KIND, 1,
+                 unnamed, "a kerb's edge is not explained");
+    size_t none = 0;
+    check_reply(sehmelir_list(store.lent, 124, &none, 0), SEHMELIR_OTHER_KIND,
+                1, 0, "nor are its edges listed");
     check(memcmp(&store, &expected, sizeof store) == 0,
           "the store is as it was");
 }
@@ -629,6 +700,13 @@ int main(void) {
     check_read();
     check_replace();
     check_reach();
+    check(sizeof(struct sehmelir_reason) == 32 &&
+              offsetof(struct sehmelir_reason, reason) == 4 &&
+              offsetof(struct sehmelir_reason, number) == 8 &&
+              offsetof(struct sehmelir_reason, vertex) == 16 &&
+              offsetof(struct sehmelir_reason, place) == 24,
+          "a reason is two 32-bit numbers and three 64-bit ones");
+    check_explain();
     check_damage();
     check_draw_kerb();
     check_keep_kerb();

@@ -2,3 +2,4 @@
 pub mod Told
 pub mod OneReply
 pub mod ChunkTold
+pub mod ReasonTold

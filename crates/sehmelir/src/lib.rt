@@ -31,6 +31,7 @@ ghost use Rattle.oldest.specs.Taken.{coordinateOf, widthOf};
 ghost use Rattle.oldest.specs.Answers.{replyOfImported, replyOfExported};
 
 pub mod chunk_calls;
+pub mod reason_calls;
 
 // Document 01's reply, the grade beside it (of a read outline, else 0), and the number with it.
 #[repr(C)]

@@ -2,6 +2,7 @@
 
 use crate::destination::Destination;
 use crate::kerbs::Styling;
+use crate::reasons::Explaining;
 use crate::tile::TileCommand;
 use clap::{Args, Parser, Subcommand};
 use clap_complete::Shell;
@@ -44,6 +45,8 @@ pub enum Command {
     DrawKerb(Kerbing),
     /// A sheet with another vertex K; the first vertex is 0
     Replace(Replacing),
+    /// Why an edge of a sheet is there, or each of them, a line an edge: edge reason vertex place
+    Explain(Explaining),
     /// What differs between two sheets, and what cannot
     Changed(Comparing),
     /// A sheet as a picture (SVG), or two, what differs in a second colour
@@ -139,6 +142,9 @@ pub struct Showing {
     pub sheet: Option<PathBuf>,
     /// The sheet after
     pub after: Option<PathBuf>,
+    /// Edges in colours, by why they are there
+    #[arg(long, conflicts_with = "after")]
+    pub reasons: bool,
     #[command(flatten)]
     pub destination: Destination,
 }

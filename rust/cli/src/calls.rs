@@ -106,6 +106,19 @@ pub fn replace(
     })
 }
 
+/// Why each edge of a sheet is there: the number of its reason, its vertex and
+/// its place.
+pub fn list(sheet: &[u8]) -> Result<Vec<[usize; 3]>, Failure> {
+    // a header may say anything, but an edge has sixteen bytes
+    let most = sheet.len() / 16;
+    let edges = Header::of(sheet).map_or(0, |header| header.edges.min(most));
+    progress::during("explaining", || {
+        with_room(edges, |room: &mut [[usize; 3]]| {
+            sehmelir::list(sheet, room.as_flattened_mut())
+        })
+    })
+}
+
 /// The path of the oldest chunks' floats.
 pub fn import(floats: &[f32]) -> Result<Vec<[i32; 3]>, Failure> {
     let path = with_room(MOST_VERTICES, |room: &mut [[i32; 3]]| {

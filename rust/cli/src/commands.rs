@@ -13,6 +13,7 @@ use crate::kerbs;
 use crate::oldest;
 use crate::path_text::{numbers, pairs, rows};
 use crate::picture;
+use crate::reasons;
 use crate::report;
 use crate::sheet::Sheet;
 use crate::source::Source;
@@ -32,6 +33,7 @@ pub fn run(command: Command) -> Result<(), Failure> {
         Command::KeepKerb(asked) => keep_kerb(asked),
         Command::DrawKerb(asked) => draw_kerb(asked),
         Command::Replace(asked) => replace(asked),
+        Command::Explain(asked) => reasons::run(asked),
         Command::Changed(asked) => compare(asked),
         Command::Picture(asked) => show(asked),
         Command::Import(asked) => import(asked),
@@ -105,16 +107,23 @@ fn compare(asked: Comparing) -> Result<(), Failure> {
 
 /// The picture of one sheet, or of two.
 fn show(asked: Showing) -> Result<(), Failure> {
-    let sheet = sheet_of(asked.sheet)?;
-    let picture = match asked.after {
-        None => picture::of_one(&sheet),
-        Some(after) => {
-            let after = sheet_of(Some(after))?;
-            let changes = Changes::between(&sheet, &after)?;
-            picture::of_two(&sheet, &after, &changes)
+    let picture = match (asked.after, asked.reasons) {
+        (None, false) => picture::of_one(&sheet_of(asked.sheet)?),
+        (None, true) => Source::named(asked.sheet).take(with_reasons)?,
+        (Some(after), _) => {
+            let (before, after) = (sheet_of(asked.sheet)?, sheet_of(Some(after))?);
+            let changes = Changes::between(&before, &after)?;
+            picture::of_two(&before, &after, &changes)
         }
     };
     asked.destination.write(picture.as_bytes())
+}
+
+/// The picture of a sheet with its edges in colours.
+fn with_reasons(sheet: Vec<u8>) -> Result<String, Failure> {
+    let sheet = Sheet::sound(sheet)?;
+    let reasons = reasons::of_edges(sheet.bytes())?;
+    Ok(picture::of_reasons(&sheet, &reasons))
 }
 
 /// The path of a file of the oldest chunks as text.

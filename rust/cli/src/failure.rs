@@ -174,6 +174,9 @@ fn meaning(refusal: &Refusal) -> String {
             "the index is not below the number of vertices; it is {index} \
              (vertices are counted from 0)"
         ),
+        Refusal::NoEdge(edge) => format!(
+            "the number is not below the number of edges; it is {edge} (edges are counted from 0)"
+        ),
         Refusal::StyleWord(place) => {
             let due = match place {
                 5 => "the kerb's radius is not 0 to 268435456",
@@ -182,9 +185,10 @@ fn meaning(refusal: &Refusal) -> String {
             };
             format!("{due}; it is word {place} of the header, counted from 0")
         }
-        Refusal::OtherKind(kind) => {
-            format!("the sheet is of a kerb, whose vertices are not replaced; its kind is {kind}")
-        }
+        Refusal::OtherKind(kind) => format!(
+            "the sheet is of a kerb, whose vertices are not replaced and whose edges are not explained; \
+             its kind is {kind}"
+        ),
         Refusal::NotTaken(place) => {
             format!("a number is not taken; the first such is at place {place}, counted from 0")
         }

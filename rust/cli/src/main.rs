@@ -1,5 +1,5 @@
-//! `sehmelir`: paths and kerbs kept as sheets, read, drawn, changed, compared and
-//! shown, paths taken from and to the oldest chunks, and sheets stored in tiles.
+//! `sehmelir`: paths and kerbs kept as sheets, read, drawn, changed, explained,
+//! compared and shown, paths taken from and to the oldest chunks, and sheets stored in tiles.
 //! What rests on a proof comes from the library, `rust/sehmelir`; what is here
 //! is text, files, pictures and words.
 
@@ -17,6 +17,7 @@ mod path_text;
 mod picture;
 mod progress;
 mod ranges;
+mod reasons;
 mod report;
 mod sentence;
 mod sheet;

@@ -58,8 +58,12 @@ fn push_number(text: &mut Vec<u8>, number: i32) {
     if number < 0 {
         text.push(b'-');
     }
+    push_digits(text, number.unsigned_abs());
+}
+
+/// The same of a number that has no sign.
+pub fn push_digits(text: &mut Vec<u8>, mut rest: u32) {
     let start = text.len();
-    let mut rest = number.unsigned_abs();
     while rest > 9 {
         text.push(b'0' + (rest % 10) as u8);
         rest /= 10;

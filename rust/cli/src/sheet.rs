@@ -155,9 +155,9 @@ fn bodies(bytes: &[u8], form: Form, vertices: usize) -> Vec<Range<usize>> {
 #[derive(Debug, PartialEq)]
 pub struct Header {
     pub grade: u32,
+    pub edges: usize,
     layout: Layout,
     vertices: usize,
-    edges: usize,
 }
 
 impl Header {

@@ -35,6 +35,7 @@ pub fn refused(reply: u32, number: u64) -> Refusal {
         7 => Refusal::Kind(word),
         8 => Refusal::NotSound(long),
         9 => Refusal::NoVertex(long),
+        10 => Refusal::NoEdge(long),
         11 => Refusal::StyleWord(word),
         12 => Refusal::OtherKind(word),
         13 => Refusal::NotTaken(long),

@@ -4,6 +4,7 @@
 mod chunk;
 mod foreign;
 mod form;
+mod reason;
 mod refusal;
 mod untaken;
 
@@ -11,6 +12,7 @@ use std::ops::RangeInclusive;
 
 pub use chunk::{table_bytes, Chunk, MOST_ENTRIES};
 pub use form::{Form, Join, Kept, Style};
+pub use reason::{explain, list, whys, Reason, Why};
 pub use refusal::Refusal;
 pub use untaken::Untaken;
 

@@ -18,7 +18,8 @@ pub enum Refusal {
     /// 4: the vertex of this index, the first such, lies outside the limits: x
     /// and y from -268,435,456 to 268,435,456, radius from 0 to 268,435,456.
     Outside(usize),
-    /// 5: the result has so many edges ([`draw`](crate::draw)), bytes
+    /// 5: the result has so many edges ([`draw`](crate::draw),
+    /// [`list`](crate::list)), bytes
     /// ([`keep`](crate::keep), [`replace`](crate::replace)) or vertices
     /// ([`read`](crate::read), [`import`](crate::import),
     /// [`export`](crate::export)), and the room lent is shorter; or the outline
@@ -35,10 +36,13 @@ pub enum Refusal {
     NotSound(usize),
     /// 9: the outline has no vertex of this index.
     NoVertex(usize),
+    /// 10: the outline has no edge of this number.
+    NoEdge(usize),
     /// 11: of a kerb's radius, join and closed the first that is outside its
     /// range is the one at this place of the header, counted from 0: 5, 6 or 7.
     StyleWord(u32),
-    /// 12: the outline is of this kind, which has no vertex to be replaced.
+    /// 12: the outline is of this kind, whose vertices are not replaced and whose
+    /// edges are not explained.
     OtherKind(u32),
     /// 13: of the numbers lent to [`import`](crate::import) or
     /// [`export`](crate::export) the one at this place, counted from 0, is the
@@ -77,6 +81,7 @@ impl Refusal {
             Refusal::Kind(_) => 7,
             Refusal::NotSound(_) => 8,
             Refusal::NoVertex(_) => 9,
+            Refusal::NoEdge(_) => 10,
             Refusal::StyleWord(_) => 11,
             Refusal::OtherKind(_) => 12,
             Refusal::NotTaken(_) => 13,
@@ -103,7 +108,7 @@ impl Display for Refusal {
             Refusal::Outside(index) => write!(formatter, "vertex {index} is outside the limits"),
             Refusal::NoRoom(needed) => write!(
                 formatter,
-                "the room is too short: the result has {needed} edges if drawn, \
+                "the room is too short: the result has {needed} edges if drawn or listed, \
                  vertices if read, bytes if kept, replaced or added"
             ),
             Refusal::NotOutline => {
@@ -114,6 +119,7 @@ impl Display for Refusal {
                 write!(formatter, "the outline is not sound, first at byte {byte}")
             }
             Refusal::NoVertex(index) => write!(formatter, "the outline has no vertex {index}"),
+            Refusal::NoEdge(edge) => write!(formatter, "the outline has no edge {edge}"),
             Refusal::StyleWord(place) => {
                 let word = match place {
                     5 => "radius",
@@ -123,7 +129,10 @@ impl Display for Refusal {
                 write!(formatter, "a kerb's {word} is outside its range")
             }
             Refusal::OtherKind(kind) => {
-                write!(formatter, "an outline of kind {kind} is not changed so")
+                write!(
+                    formatter,
+                    "an outline of kind {kind} is neither changed nor explained so"
+                )
             }
             Refusal::NotTaken(place) => {
                 write!(formatter, "the number at place {place} is not taken")

@@ -3,9 +3,10 @@
 use super::frame::{roomy, Frame};
 use super::region::Loops;
 use super::view::{Panel, View};
-use super::{bounds, panel, title, Shown};
+use super::{bounds, panel, reasons, title, Shown};
 use crate::changes::Changes;
 use crate::sheet::Sheet;
+use sehmelir::Reason;
 use std::iter::zip;
 
 const STYLE: &str = include_str!("style.css");
@@ -35,6 +36,24 @@ struct Page {
 
 /// The picture of one sheet.
 pub fn of_one(sheet: &Sheet) -> String {
+    let heading = words("title", 20, 34, &title::of_one(sheet));
+    alone(sheet, None, |_| heading)
+}
+
+/// The picture of one sheet with its edges in colours, by why they are there.
+pub fn of_reasons(sheet: &Sheet, told: &[Reason]) -> String {
+    let heading = words("title", 20, 24, &title::of_one(sheet));
+    alone(sheet, Some(told), |page| {
+        heading + &reasons::legend(page.wide, told)
+    })
+}
+
+/// The picture of one sheet, with a heading that fits its page.
+fn alone(
+    sheet: &Sheet,
+    reasons: Option<&[Reason]>,
+    heading: impl FnOnce(&Page) -> String,
+) -> String {
     let changes = Changes {
         vertices: vec![false; sheet.vertices().len()],
         bodies: vec![false; sheet.bodies().len()],
@@ -45,9 +64,11 @@ pub fn of_one(sheet: &Sheet) -> String {
         after: sheet,
         changes: &changes,
         region: region.as_ref(),
+        reasons,
     };
-    let heading = words("title", 20, 34, &title::of_one(sheet));
-    fitted(&page_of_one(frame_of(shown)), shown, &heading)
+    let page = page_of_one(frame_of(shown));
+    let heading = heading(&page);
+    fitted(&page, shown, &heading)
 }
 
 /// The picture of two sheets with as many vertices, and of what differs.
@@ -58,6 +79,7 @@ pub fn of_two(before: &Sheet, after: &Sheet, changes: &Changes) -> String {
         after,
         changes,
         region: region.as_ref(),
+        reasons: None,
     };
     let heading = words("title", 20, 28, &title::of_two(before, after))
         + &words("told", 20, 48, &title::of_changes(shown));
@@ -132,10 +154,11 @@ fn fitted(page: &Page, shown: Shown, heading: &str) -> String {
     }
     let unfilled = shown.region.is_none().then(title::of_unfilled);
     let notes = notes(page, [shortcuts, unfilled]);
+    let colours = shown.reasons.map_or("", |_| reasons::STYLE);
     let Page { wide, tall, .. } = page;
     format!(
         "<svg xmlns=\"http://www.w3.org/2000/svg\" viewBox=\"0 0 {wide} {tall}\" \
-         width=\"{wide}\" height=\"{tall}\">\n<style>\n{STYLE}</style>\n\
+         width=\"{wide}\" height=\"{tall}\">\n<style>\n{STYLE}{colours}</style>\n\
          <rect width=\"100%\" height=\"100%\" fill=\"#fff\"/>\n{heading}{panels}{notes}</svg>\n"
     )
 }

@@ -10,6 +10,7 @@ mod layout;
 mod lines;
 mod panel;
 mod pen;
+mod reasons;
 mod region;
 mod shortcut;
 mod title;
@@ -18,8 +19,9 @@ mod view;
 use crate::changes::Changes;
 use crate::sheet::Sheet;
 use region::Loops;
+use sehmelir::Reason;
 
-pub use layout::{of_one, of_two};
+pub use layout::{of_one, of_reasons, of_two};
 
 /// What a picture shows: one sheet as `before` and `after` with nothing marked,
 /// or two.
@@ -30,6 +32,8 @@ struct Shown<'a> {
     changes: &'a Changes,
     /// What `after` encloses, if its edges chain.
     region: Option<&'a Loops>,
+    /// Why each edge of `after` is there, if that is shown.
+    reasons: Option<&'a [Reason]>,
 }
 
 impl Shown<'_> {

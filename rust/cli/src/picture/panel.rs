@@ -6,6 +6,7 @@ use super::frame::{Frame, Point};
 use super::labels::{every, labels};
 use super::lines::{bodies, way};
 use super::pen::decimal;
+use super::reasons;
 use super::view::{Panel, View};
 use super::Shown;
 
@@ -30,14 +31,15 @@ pub fn begin(panel: Panel, view: View, shown: Shown, tolerance: i64) -> (String,
     (text, lines)
 }
 
-/// The boundary, filled where it closes, and over it the edges of the bodies
-/// that changed, as they were and as they are.
+/// The boundary, filled where it closes, in one colour or by its reasons; and
+/// over it the edges of the bodies that changed, as they were and as they are.
 fn edges(view: View, shown: Shown, tolerance: i64) -> (String, usize) {
     let marked = |sheet, wanted| bodies(view, tolerance, sheet, &shown.changes.bodies, wanted);
-    let mut paths = vec![match shown.region {
-        Some(region) => ("edge region", region.drawn(view, tolerance)),
-        None => ("edge", marked(shown.after, false)),
-    }];
+    let mut paths = match (shown.reasons, shown.region) {
+        (Some(told), _) => reasons::paths(view, shown, told, tolerance),
+        (None, Some(region)) => vec![("edge region", region.drawn(view, tolerance))],
+        (None, None) => vec![("edge", marked(shown.after, false))],
+    };
     if shown.any_changed() {
         paths.push(("was", marked(shown.before, true)));
         paths.push(("now", marked(shown.after, true)));

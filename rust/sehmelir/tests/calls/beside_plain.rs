@@ -14,7 +14,7 @@ pub fn cases() -> usize {
 }
 
 /// Most vertices of a generated path.
-const VERTICES: u64 = 12;
+pub const VERTICES: u64 = 12;
 
 /// How often each reply was given.
 #[derive(Default)]
@@ -68,6 +68,7 @@ pub fn answer(reply: Reply) -> Result<usize, Refusal> {
         7 => Refusal::Kind(reply.number.try_into().unwrap()),
         8 => Refusal::NotSound(number),
         9 => Refusal::NoVertex(number),
+        10 => Refusal::NoEdge(number),
         11 => Refusal::StyleWord(reply.number.try_into().unwrap()),
         12 => Refusal::OtherKind(reply.number.try_into().unwrap()),
         13 => Refusal::NotTaken(number),
@@ -141,7 +142,7 @@ fn vertices(path: &[[i32; 3]]) -> Vec<Vertex> {
 
 /// The sound outline of a path within the limits, as it was kept once even
 /// where there are no edges.
-fn outline(path: &[[i32; 3]], grade: u32) -> Vec<u8> {
+pub fn outline(path: &[[i32; 3]], grade: u32) -> Vec<u8> {
     plain::outline::bytes(&vertices(path), grade)
 }
 
@@ -177,7 +178,7 @@ fn keeps() {
 }
 
 /// An outline, now and then damaged, now and then with bytes after it.
-fn store(maker: &mut Maker, path: &Path) -> Vec<u8> {
+pub fn store(maker: &mut Maker, path: &Path) -> Vec<u8> {
     let mut store = outline(path, maker.grade());
     if maker.chance(50) {
         maker.damage(&mut store);
@@ -301,7 +302,7 @@ fn replaces_many_times_in_one_store() {
 }
 
 /// Paths whose outlines are short enough to go over byte by byte.
-const SHORT: [&[[i32; 3]]; 5] = [
+pub const SHORT: [&[[i32; 3]]; 5] = [
     &[],
     &[[0, 0, 10]],
     &[[0, 0, 2], [10, 10, 2], [20, 20, 2]],

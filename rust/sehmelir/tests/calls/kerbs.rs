@@ -55,7 +55,7 @@ fn needed(reply: Reply) -> usize {
 }
 
 /// The sound outline of a kerb within the limits, also of one without edges.
-fn outline(points: &[[i32; 2]], grade: u32, style: StyleWords) -> Vec<u8> {
+pub fn outline(points: &[[i32; 2]], grade: u32, style: StyleWords) -> Vec<u8> {
     let point = |&[x, y]: &[i32; 2]| Point::new(x as i64, y as i64);
     let points: Vec<Point> = points.iter().map(point).collect();
     plain::outline::kerb_bytes(&points, grade, PlainStyle::of(style).unwrap())
@@ -157,7 +157,7 @@ fn keeps() {
 }
 
 /// A kept kerb, now and then damaged, now and then with bytes after it.
-fn store(maker: &mut Maker) -> (usize, Vec<u8>) {
+pub fn store(maker: &mut Maker) -> (usize, Vec<u8>) {
     let ((points, style), grade) = (maker.kerb(VERTICES), maker.grade());
     let mut store = outline(&points, grade, style);
     if maker.chance(50) {

@@ -1,6 +1,6 @@
 //! The calls on memory between canaries.
 
-use sehmelir::{Chunk, Join, Kept, Refusal, Style};
+use sehmelir::{Chunk, Join, Kept, Refusal, Style, Why};
 use std::fmt::Debug;
 use std::ops::Range;
 
@@ -199,6 +199,14 @@ pub fn replace(store: &[u8], index: usize, [x, y, radius]: [i32; 3]) -> Outcome<
 
 pub fn reach(store: &[u8], index: usize) -> Result<usize, Refusal> {
     lend_to_read(store, |store| sehmelir::reach(store, index))
+}
+
+pub fn explain(store: &[u8], edge: usize) -> Result<Why, Refusal> {
+    lend_to_read(store, |store| sehmelir::explain(store, edge))
+}
+
+pub fn list(store: &[u8], room: &[usize]) -> Outcome<usize, usize> {
+    lend_to_read(store, |store| lend(room, |out| sehmelir::list(store, out)))
 }
 
 pub fn import(numbers: &[f32], room: &[i32]) -> Outcome<usize, i32> {

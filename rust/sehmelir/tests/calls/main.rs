@@ -8,5 +8,6 @@ mod kerbs;
 mod lent;
 mod making;
 mod oldest;
+mod reasons;
 mod refusals;
 mod stack;

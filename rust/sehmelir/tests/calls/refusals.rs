@@ -226,8 +226,8 @@ fn say_why() {
         (Refusal::Outside(3), "vertex 3 is outside the limits"),
         (
             Refusal::NoRoom(8),
-            "the room is too short: the result has 8 edges if drawn, vertices if read, \
-             bytes if kept, replaced or added",
+            "the room is too short: the result has 8 edges if drawn or listed, \
+             vertices if read, bytes if kept, replaced or added",
         ),
         (
             Refusal::NotOutline,
@@ -239,13 +239,14 @@ fn say_why() {
             "the outline is not sound, first at byte 50",
         ),
         (Refusal::NoVertex(2), "the outline has no vertex 2"),
+        (Refusal::NoEdge(7), "the outline has no edge 7"),
         (
             Refusal::StyleWord(5),
             "a kerb's radius is outside its range",
         ),
         (
             Refusal::OtherKind(1),
-            "an outline of kind 1 is not changed so",
+            "an outline of kind 1 is neither changed nor explained so",
         ),
         (Refusal::NotTaken(5), "the number at place 5 is not taken"),
         (Refusal::Damaged, "the chunk's table is damaged"),
@@ -260,7 +261,7 @@ fn say_why() {
             "a path of 3 vertices has no edges",
         ),
     ];
-    let replies = (1..=9).chain(11..=18);
+    let replies = 1..=18;
     for ((refusal, text), reply) in table.into_iter().zip(replies) {
         let error: &dyn Error = &refusal;
         assert_eq!(error.to_string(), text);

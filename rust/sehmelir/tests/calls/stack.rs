@@ -1,14 +1,16 @@
 //! How much stack the calls take.
 
-use sehmelir::{draw, draw_kerb, keep, keep_kerb, kerb_bytes, outline, reach, read, replace};
+use sehmelir::{
+    draw, draw_kerb, explain, keep, keep_kerb, kerb_bytes, list, outline, reach, read, replace,
+};
 use sehmelir::{Chunk, Join, Refusal, Style};
 use std::thread::Builder;
 
 /// What draw and draw_kerb may take, and some for the thread that calls them.
 const FOR_DRAW: usize = sehmelir::STACK + 32 * 1024;
 
-/// What keep, keep_kerb, read, replace, reach and a chunk's add may take, and as
-/// much for the thread.
+/// What keep, keep_kerb, read, replace, reach, explain, list and a chunk's add
+/// may take, and as much for the thread.
 const FOR_OTHERS: usize = (256 + 32) * 1024;
 
 /// What a chunk's find, remove and compact may take, and as much for the
@@ -43,6 +45,9 @@ fn is_at_most_what_is_said() {
             let kept = read(&store, &mut numbers).unwrap();
             assert_eq!((kept.vertices, kept.grade), (vertices, grade));
             assert_eq!(reach(&store, 0), Ok(2));
+            assert!(explain(&store, edges / 2).is_ok());
+            let mut numbers = vec![0; 3 * (edges + 2_000)];
+            assert!(list(&store, &mut numbers).is_ok());
         });
     }
 }
