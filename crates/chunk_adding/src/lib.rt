@@ -1,10 +1,10 @@
 // Add: an outline that is checked as reading checks it, stored in a chunk under a key.
-use heading::Checked;
-use heading::Header;
 use checking::check;
 use chunk_table::damage::damaged;
 use chunks::Done;
 use chunks::putting::put_outline;
+use heading::Checked;
+use heading::Header;
 use outline::layout::whole_length;
 use replies::Refusal;
 ghost use mathlib.Core.Path.{_≡_};

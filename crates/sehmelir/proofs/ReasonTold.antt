@@ -1,6 +1,6 @@
 -- A reason from what the code has put into it, and that a promise allows one. Assumes nothing.
-use mathlib.Core.Path.{_≡_, refl, sym, _∙_}
-use Prim.Native.Nat.{ℕ, _≤_, _<_, _^_}
+use mathlib.Core.Path.{_≡_, sym, _∙_}
+use Prim.Native.Nat.{ℕ, _<_}
 use native.Mathlib.Omega.{arith}
 use Rattle.replies.specs.Replies.{Reply as Answer}
 use Rattle.replies.specs.Refusals.{refusalOf, Codes}

@@ -8,7 +8,6 @@ use reasons::Why;
 use reasons::labels::reason_number;
 use replies::Refusal;
 use replies::refusals::code;
-ghost use mathlib.Core.Path.{_≡_};
 ghost use Rattle.replies.specs.Refusals.{refusalOf};
 ghost use Rattle.reasons.specs.Lists.{unnamed};
 ghost use Rattle.explaining.specs.Explaining.{replyOfExplained, whyOfExplained, replyOfListed};

@@ -330,6 +330,10 @@ pub fn reach(store: &[u8], index: usize) -> Result<usize, Refusal> {
 /// -268,435,456 to 268,435,456. Minus zero counts as zero. Else the float comes
 /// back, with the first reason that applies.
 ///
+/// # Errors
+///
+/// [`Untaken`], with the float: the first reason that applies.
+///
 /// ```
 /// use sehmelir::{take_coordinate, Untaken};
 ///
@@ -346,6 +350,10 @@ pub fn take_coordinate(value: f32) -> Result<i32, Untaken> {
 /// from 0 to 536,870,912, and returns the radius, which is half of it. Minus
 /// zero counts as zero. Else the float comes back, with the first reason that
 /// applies.
+///
+/// # Errors
+///
+/// [`Untaken`], with the float: the first reason that applies.
 ///
 /// ```
 /// use sehmelir::{take_width, Untaken};

@@ -109,7 +109,7 @@ impl Display for Refusal {
             Refusal::NoRoom(needed) => write!(
                 formatter,
                 "the room is too short: the result has {needed} edges if drawn or listed, \
-                 vertices if read, bytes if kept, replaced or added"
+                 vertices if read, imported or exported, bytes if kept, replaced or added"
             ),
             Refusal::NotOutline => {
                 write!(formatter, "the store is too short or not of edition 1")

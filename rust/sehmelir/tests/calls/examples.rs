@@ -196,3 +196,20 @@ fn the_limit_is_taken_and_one_more_is_refused() {
     assert_eq!(draw(&[268435457, 0, 10], 1, &room(32)).0, refused);
     assert_eq!(keep(&[268435457, 0, 10], 1, &room(168)).0, refused);
 }
+
+/// Document 02, request 6: the smallest outline that was kept under the rule
+/// before it and is not sound any more. Its arcs had 8 edges, now they have 6,
+/// so the first byte that differs counts the edges.
+#[test]
+fn an_outline_of_the_rule_before_request_6_is_not_sound() {
+    let words: [i32; 46] = [
+        1, 0, 1, 2, 8, 0, 0, 2, 0, 0, -3, 0, 8, 0, // header, entries, closing count
+        0, -3, 1, -1, -1, -1, 0, -3, 1, -1, 2, 0, 2, 0, 1, 2, // four edges
+        1, 2, -1, 2, -1, 2, -2, 0, -2, 0, -2, -1, -2, -1, -1, -1, // and four
+    ];
+    let store: Vec<u8> = words.iter().flat_map(|word| word.to_le_bytes()).collect();
+    let refused = read(&store, &room(6)).0.map(|_| ());
+    assert_eq!(refused, Err(Refusal::NotSound(16)));
+    let path = [0, 0, 2, 0, -3, 0];
+    assert_eq!(draw(&path, 1, &room(24)).0, Ok(6));
+}

@@ -227,7 +227,7 @@ fn say_why() {
         (
             Refusal::NoRoom(8),
             "the room is too short: the result has 8 edges if drawn or listed, \
-             vertices if read, bytes if kept, replaced or added",
+             vertices if read, imported or exported, bytes if kept, replaced or added",
         ),
         (
             Refusal::NotOutline,
