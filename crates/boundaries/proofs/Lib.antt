@@ -1,3 +1,4 @@
 -- The crate's own laws.
 pub mod EdgesAgain
 pub mod ResultsClose
+pub mod KerbsDrawn

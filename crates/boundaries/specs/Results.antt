@@ -15,6 +15,7 @@ use Rattle.outline.specs.declared.Form.{Form}
 use Rattle.outline.specs.declared.Form.the-variants.{Stroke, Kerb}
 use Rattle.outline.specs.Stores.{formIn, gradeIn, lengthIn, pathIn, soundOf}
 use Rattle.drawing.specs.Drawing.{drawReply, drawOut}
+use Rattle.kerb_drawing.specs.KerbDrawing.{drawKerbReply, drawKerbOut}
 use Rattle.keeping.specs.Keeping.{keepReply, keepOut}
 use Rattle.closing.specs.Closing.{Balanced, strayOf}
 
@@ -31,6 +32,12 @@ abbrev pub DrawnCloses : Type 0
 DrawnCloses = (path : List ℤ) (g m : ℕ) (out : List ℤ) → drawReply path g (length out) ≡ (0, m) → strayOf (pathOf path) ≡ false
     → (length (edgesFrom (take (4 * m) (drawOut path g out))) ≡ m)
     × Balanced (edgesFrom (take (4 * m) (drawOut path g out)))
+
+-- The same of a kerb, without exception.
+abbrev pub KerbDrawnCloses : Type 0
+KerbDrawnCloses = (l : List ℤ) (g r j c m : ℕ) (out : List ℤ) → drawKerbReply l g r j c (length out) ≡ (0, m)
+    → (length (edgesFrom (take (4 * m) (drawKerbOut l g r j c out))) ≡ m)
+    × Balanced (edgesFrom (take (4 * m) (drawKerbOut l g r j c out)))
 
 -- Words in two's complement, as numbers.
 unfoldable pub numbersOf : List ℕ → List ℤ

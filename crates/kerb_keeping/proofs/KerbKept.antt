@@ -27,7 +27,7 @@ all-radius r (x ∷ []) = tt
 all-radius r (x ∷ y ∷ l) = (refl, all-radius r l)
 
 module _ (l : List ℤ) (g r j c room : ℕ) (h : keepKerbReply l g r j c room .0 ≡ 0) where
-  kerb-none : NoneHold (kerbRows l g r j c ++ writeRows (kerbForm r j c) g (kerbPath (pos r) l) room)
+  pub kerb-none : NoneHold (kerbRows l g r j c ++ writeRows (kerbForm r j c) g (kerbPath (pos r) l) room)
   unfolding keepKerbReply writeRows kerbRows pairsRow gradeRow styleRow countRow outsideRow emptyRow roomRow
   kerb-none = first-none _ _ (refl, (refl, (refl, (refl, (refl, (refl, (refl, tt))))))) h
 

@@ -1,3 +1,4 @@
 -- The crate's own laws.
 pub mod Marked
 pub mod ThroughCalls
+pub mod KerbsKept

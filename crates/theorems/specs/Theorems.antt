@@ -33,6 +33,12 @@ KeepKerbRead = (l : List ℤ) (g r j c : ℕ) (out : List ℕ) (room : List ℤ)
     × (readForm (keepKerbOut l g r j c out) (length room) ≡ Kerb (styleOf r j c))
     × (readOut (keepKerbOut l g r j c out) room ≡ l ++ drop (length l) room)
 
+-- A kerb's points, radius, join, closed and grade keep to one outline: what was kept in one room is kept in any other that holds it, in the same bytes.
+abbrev pub OneKerbOutlineKept : Type 0
+OneKerbOutlineKept = (l : List ℤ) (g r j c m : ℕ) (a b : List ℕ) → keepKerbReply l g r j c (length a) ≡ (0, m) → m ≤ length b
+    → (keepKerbReply l g r j c (length b) ≡ (0, m))
+    × (take m (keepKerbOut l g r j c b) ≡ take m (keepKerbOut l g r j c a))
+
 -- A store in which a vertex was replaced begins with the bytes that keep writes for the path with that vertex; then come zeros up to the old
 -- end; and past both the store is as it was. Here m is the new outline's length, and z how many zeros there are.
 abbrev pub ReplacedIsKept : Type 0
