@@ -27,7 +27,7 @@ ghost use Rattle.joins.specs.Joins.{arcAbout, startChoice, startCap, end
 ghost use Rattle.contacts.specs.Bounds.{Inside, Around};
 
 // An arc between two contacts of a vertex.
-fn arc_about(
+pub fn arc_about(
     out: &mut [i32],
     at: usize,
     pen: Pen,
@@ -114,7 +114,7 @@ pub fn bend(prev: Section, next: Section) -> i64
 }
 
 // Whether the left of a join turns about the vertex.
-fn left_turns(prev: Section, next: Section) -> bool
+pub fn left_turns(prev: Section, next: Section) -> bool
     requires { ⌜ Around prev × Around next ⌝ }
     ensures { λ r. ⌜ r ≡ leftTurns prev next ⌝ }
 {
@@ -125,7 +125,7 @@ fn left_turns(prev: Section, next: Section) -> bool
 }
 
 // Whether its right does.
-fn right_turns(prev: Section, next: Section) -> bool
+pub fn right_turns(prev: Section, next: Section) -> bool
     requires { ⌜ Around prev × Around next ⌝ }
     ensures { λ r. ⌜ r ≡ rightTurns prev next ⌝ }
 {
@@ -136,7 +136,7 @@ fn right_turns(prev: Section, next: Section) -> bool
 }
 
 // The left of a join: from the next section back to the previous one.
-pub fn left_join(out: &mut [i32], at: usize, pen: Pen, prev: Section, next: Section) -> usize
+fn left_join(out: &mut [i32], at: usize, pen: Pen, prev: Section, next: Section) -> usize
     requires { ⌜ UnitLong (pen .step) × Around prev × Around next × (sameCentre prev next ≡ true) ⌝ }
     requires { ⌜ Room edgeNumbers at (leftJoin (pen .step) prev next) ⌝ }
     ensures { λ n. ⌜ Lays (pen .step) (pen .folds) (now (out .entry)) at (leftJoin (pen .step) prev next) (now (out .exit)) n ⌝ }
@@ -151,7 +151,7 @@ pub fn left_join(out: &mut [i32], at: usize, pen: Pen, prev: Section, next: Sect
 }
 
 // The right of a join: from the previous section to the next one.
-pub fn right_join(out: &mut [i32], at: usize, pen: Pen, prev: Section, next: Section) -> usize
+fn right_join(out: &mut [i32], at: usize, pen: Pen, prev: Section, next: Section) -> usize
     requires { ⌜ UnitLong (pen .step) × Around prev × Around next × (sameCentre prev next ≡ true) ⌝ }
     requires { ⌜ Room edgeNumbers at (rightJoin (pen .step) prev next) ⌝ }
     ensures { λ n. ⌜ Lays (pen .step) (pen .folds) (now (out .entry)) at (rightJoin (pen .step) prev next) (now (out .exit)) n ⌝ }

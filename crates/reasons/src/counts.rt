@@ -5,12 +5,14 @@ use contacts::Section;
 use contacts::Vertex;
 use folds::Pen;
 use joins::Cap;
+use joins::builder_join::arc_about;
 use joins::builder_join::gap;
-use joins::builder_join::left_join;
-use joins::builder_join::right_join;
+use joins::builder_join::left_turns;
+use joins::builder_join::right_turns;
 use joins::builder_join::start_cap;
 use plane::Point;
 use plane::Vector;
+use turning::Sweep;
 use turning::edges::edge;
 use variable_stroke::Chain;
 use variable_stroke::Walk;
@@ -19,9 +21,12 @@ ghost use mathlib.Core.Bool.{true};
 ghost use lib.ListN.{length};
 ghost use Rattle.plane.specs.Vectors.{Near};
 ghost use Rattle.plane.specs.Directions.{UnitLong};
-ghost use Rattle.turning.specs.Edges.{edgeOf};
+ghost use Rattle.runs.specs.Runs.{Room};
+ghost use Rattle.turning.specs.Edges.{edgeOf, edgeNumbers};
+ghost use Rattle.turning.specs.Bounds.{About};
+ghost use Rattle.contacts.specs.Contacts.{centreOf};
 ghost use Rattle.contacts.specs.Bounds.{Inside, Around};
-ghost use Rattle.joins.specs.Joins.{startCap, leftJoin, rightJoin, sameCentre, gapOf};
+ghost use Rattle.joins.specs.Joins.{arcAbout, startCap, leftJoin, rightJoin, sameCentre, gapOf};
 ghost use Rattle.variable_stroke.specs.Bounds.{AroundChain, AroundWalk};
 ghost use Rattle.variable_stroke.specs.Chains.{finishOf};
 ghost use Rattle.reasons.specs.Lists.{endReason};
@@ -79,17 +84,32 @@ pub fn start(t: Vector, s: Section, cap: Cap) -> usize
     start_cap(&mut nowhere, 0, pen, s, cap) / 4
 }
 
-// The left of a join.
-pub fn left(t: Vector, prev: Section, next: Section) -> usize
-    requires { ⌜ UnitLong t × Around prev × Around next × (sameCentre prev next ≡ true) ⌝ }
-    ensures { λ n. ⌜ n ≡ length (leftJoin t prev next) ⌝ }
+// An arc about a vertex.
+fn about(t: Vector, v: Vertex, p: Point, q: Point, choice: Sweep) -> usize
+    requires { ⌜ UnitLong t × Inside v × About (centreOf v) p × About (centreOf v) q ⌝ }
+    requires { ⌜ Room edgeNumbers 0 (arcAbout t v p q choice) ⌝ }
+    ensures { λ n. ⌜ n ≡ length (arcAbout t v p q choice) ⌝ }
 {
     let mut nowhere = [0i32; 0];
     let pen = Pen {
         step: t,
         folds: false,
     };
-    left_join(&mut nowhere, 0, pen, prev, next) / 4
+    arc_about(&mut nowhere, 0, pen, v, p, q, choice) / 4
+}
+
+// The left of a join. Its own function is left to draw, whose code it is then laid into, and so is that of its right.
+pub fn left(t: Vector, prev: Section, next: Section) -> usize
+    requires { ⌜ UnitLong t × Around prev × Around next × (sameCentre prev next ≡ true) ⌝ }
+    ensures { λ n. ⌜ n ≡ length (leftJoin t prev next) ⌝ }
+{
+    let p = next.left.a;
+    let q = prev.left.b;
+    let v = next.a;
+    if left_turns(prev, next) {
+        return about(t, v, p, q, Sweep::Minor);
+    }
+    side(p, q)
 }
 
 // The right of a join.
@@ -97,12 +117,13 @@ pub fn right(t: Vector, prev: Section, next: Section) -> usize
     requires { ⌜ UnitLong t × Around prev × Around next × (sameCentre prev next ≡ true) ⌝ }
     ensures { λ n. ⌜ n ≡ length (rightJoin t prev next) ⌝ }
 {
-    let mut nowhere = [0i32; 0];
-    let pen = Pen {
-        step: t,
-        folds: false,
-    };
-    right_join(&mut nowhere, 0, pen, prev, next) / 4
+    let p = prev.right.b;
+    let q = next.right.a;
+    let v = prev.b;
+    if right_turns(prev, next) {
+        return about(t, v, p, q, Sweep::Major);
+    }
+    side(p, q)
 }
 
 // The caps across a gap.

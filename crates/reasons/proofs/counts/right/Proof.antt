@@ -1,18 +1,30 @@
--- `reasons::counts::right` meets its contract: the right join over no room, four numbers an edge. Assumes nothing.
+-- `reasons::counts::right` meets its contract: an arc where the right of a join turns, else an edge, counted. Assumes nothing.
+use mathlib.Core.Path.{sym, ap, _∙_}
 use borrow.Author.Needs.{needs}
 use native.Mathlib.Omega.{arith}
-use Rattle.reasons.proofs.Counted.{few-room, laid-count, right-few}
+use lib.ListN.{length}
+use Rattle.runs.proofs.Laws.{room-as}
+use Rattle.joins.proofs.CapsAndJoins.{contact-near, about-shared-right, right-arc, right-edge}
+use Rattle.reasons.proofs.Counted.{few-room, right-few}
 use Rattle.reasons.proofs.counts.right.Statement.{statement}
 use Rattle.reasons.proofs.counts.right.Tie as tie
 
-slice-aggregate-right-join : tie.Need-slice-aggregate-right-join
-slice-aggregate-right-join c = search needs
+right-turns-requires : tie.Need-right-turns-requires
+right-turns-requires c κs = search needs
 
-right-join-requires : tie.Need-right-join-requires
-right-join-requires c κs = (c .before .pre, few-room (right-few (c .before .args .t) (c .before .args .prev) (c .before .args .next) (c .before .pre .3)) (omega arith))
+about-requires : tie.Need-about-requires
+about-requires c κs =
+    let h = c .before .before .before .before .before .pre in
+    ((h .0, h .1 .b, h .1 .right-b, about-shared-right _ (c .before .before .before .before .before .pre .3) (h .2)), room-as (right-arc _ _ _ (c .before .right-turns .ensures) (c .if1 .taken)) (few-room (right-few (c .before .before .before .before .before .args .t) (c .before .before .before .before .before .args .prev) (c .before .before .before .before .before .args .next) (c .before .before .before .before .before .pre .3)) (omega arith)))
 
 returns : tie.Need-returns
-returns c = laid-count (c .before .right-join .ensures)
+returns c = c .about .ensures ∙ ap length (sym (right-arc _ _ _ (c .before .before .right-turns .ensures) (c .before .if1 .taken)))
+
+side-requires : tie.Need-side-requires
+side-requires c κs = let h = c .before .before .before .before .before .pre in (contact-near (h .1 .b) (h .1 .right-b), contact-near (h .2 .a) (h .2 .right-a))
+
+returns-2 : tie.Need-returns-2
+returns-2 c = c .side .ensures ∙ ap length (sym (right-edge _ _ _ (c .before .before .right-turns .ensures) (c .before .if1 .left)))
 
 pub right-spec : {M : Type 1} → statement M
-right-spec = tie.close (tie.spec slice-aggregate-right-join right-join-requires returns)
+right-spec = tie.close (tie.spec right-turns-requires about-requires returns side-requires returns-2)
