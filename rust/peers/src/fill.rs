@@ -1,12 +1,14 @@
-//! The region that a kerb's edges enclose, and what it should be.
+//! The region that edges enclose, and what it should be.
 
 use crate::geos::{Geos, Shape};
 use crate::kerbs::Kerb;
+use crate::strokes::Stroke;
+use plain::contacts::{kind, Kind, Vertex};
 use sehmelir::Join;
 use std::f64::consts::PI;
 
-/// How often the edges run round a point, counterclockwise.
-fn winding(edges: &[[i32; 4]], [x, y]: [f64; 2]) -> i64 {
+/// How often edges run round a point, counterclockwise.
+pub fn winding(edges: &[[i32; 4]], [x, y]: [f64; 2]) -> i64 {
     let crosses = |&[ax, ay, bx, by]: &[i32; 4]| {
         let [ax, ay, bx, by] = [ax, ay, bx, by].map(f64::from);
         let left = (bx - ax) * (y - ay) - (by - ay) * (x - ax);
@@ -19,25 +21,35 @@ fn winding(edges: &[[i32; 4]], [x, y]: [f64; 2]) -> i64 {
     edges.iter().map(crosses).sum()
 }
 
-/// The faces between edges that are not run round 0 times, as one; and the
-/// least number that is.
-pub fn filled<'a>(geos: &'a Geos, edges: &[[i32; 4]]) -> (Shape<'a>, i64) {
+/// A face between edges, and how often they run round it.
+pub struct Face<'a> {
+    pub shape: Shape<'a>,
+    pub times: i64,
+}
+
+/// The faces between edges.
+pub fn faces<'a>(geos: &'a Geos, edges: &[[i32; 4]]) -> Vec<Face<'a>> {
     let line =
         |&[ax, ay, bx, by]: &[i32; 4]| geos.line(&[[ax as f64, ay as f64], [bx as f64, by as f64]]);
     let lines = geos.lines(edges.iter().map(line).collect());
-    let mut least = 0;
-    let mut faces = Vec::new();
-    for face in lines.united().faces() {
-        let times = winding(edges, face.inside());
-        // a sliver between two edges that cut each other has no inside to ask
-        if face.area() > 1.0 {
-            least = least.min(times);
-        }
-        if times != 0 {
-            faces.push(face);
-        }
-    }
-    (geos.union(faces), least)
+    let face = |shape: Shape<'a>| {
+        let times = winding(edges, shape.inside());
+        Face { shape, times }
+    };
+    lines.united().faces().into_iter().map(face).collect()
+}
+
+/// The least number of times that a face is run round. A sliver between two
+/// edges that cut each other has no inside to ask.
+pub fn least(faces: &[Face]) -> i64 {
+    let wide = faces.iter().filter(|face| face.shape.area() > 1.0);
+    wide.map(|face| face.times).min().unwrap_or(0).min(0)
+}
+
+/// The faces that are not run round 0 times, as one.
+pub fn filled<'a>(geos: &'a Geos, faces: Vec<Face<'a>>) -> Shape<'a> {
+    let faces = faces.into_iter().filter(|face| face.times != 0);
+    geos.merged(faces.map(|face| face.shape).collect())
 }
 
 fn towards([ax, ay]: [f64; 2], [bx, by]: [f64; 2]) -> [f64; 2] {
@@ -45,8 +57,49 @@ fn towards([ax, ay]: [f64; 2], [bx, by]: [f64; 2]) -> [f64; 2] {
     [(bx - ax) / length, (by - ay) / length]
 }
 
+/// Points on an arc, its ends among them, in steps of at most a quarter degree.
+fn arc([x, y]: [f64; 2], radius: f64, from: f64, turn: f64) -> Vec<[f64; 2]> {
+    let steps = (turn.abs() * 720.0 / PI).ceil().max(1.0) as i32;
+    let point = |step: i32| {
+        let angle = from + turn * step as f64 / steps as f64;
+        [x + radius * angle.cos(), y + radius * angle.sin()]
+    };
+    (0..=steps).map(point).collect()
+}
+
+/// Points on a vertex's circle.
+fn about(vertex: Vertex, from: f64, turn: f64) -> Vec<[f64; 2]> {
+    let centre = [vertex.x as f64, vertex.y as f64];
+    arc(centre, vertex.radius as f64, from, turn)
+}
+
+/// What a stroke should fill together: of each drawn step the two circles and
+/// all that lies between them, and every circle whose radius is 2 or more.
+pub fn hulls<'a>(geos: &'a Geos, stroke: &Stroke) -> Vec<Shape<'a>> {
+    let path = stroke.vertices();
+    let mut hulls = Vec::new();
+    let drawn = |step: &[Vertex]| kind(step[0], step[1]) == Kind::Drawn;
+    for step in path.windows(2).filter(|step| drawn(step)) {
+        let (a, b) = (step[0], step[1]);
+        let (x, y) = ((b.x - a.x) as f64, (b.y - a.y) as f64);
+        let way = y.atan2(x);
+        // how far to either side of the way the contacts lie
+        let aside = ((a.radius - b.radius) as f64 / x.hypot(y)).acos();
+        let mut hull = about(a, way + aside, 2.0 * (PI - aside));
+        hull.extend(about(b, way - aside, 2.0 * aside));
+        hulls.push(geos.polygon(&hull));
+    }
+    for (place, &vertex) in path.iter().enumerate().filter(|(_, v)| v.radius >= 2) {
+        let steps = &path[place.saturating_sub(1)..path.len().min(place + 2)];
+        if !steps.windows(2).any(drawn) {
+            hulls.push(geos.polygon(&about(vertex, 0.0, 2.0 * PI)[1..]));
+        }
+    }
+    hulls
+}
+
 /// A rectangle along each line of a kerb, and at each corner a triangle or a
-/// sector on its outer side, whose arc is drawn in steps of a quarter degree.
+/// sector on its outer side.
 pub fn pieces<'a>(geos: &'a Geos, kerb: &Kerb) -> Shape<'a> {
     let (line, radius) = (kerb.line(), kerb.style.radius as f64);
     let mut pieces = Vec::new();
@@ -87,19 +140,11 @@ fn corner<'a>(
     }
     let side = if turn > 0.0 { -1.0 } else { 1.0 };
     let start = (side * ax).atan2(-side * ay);
-    let steps = match join {
-        Join::Bevel => 1,
-        Join::Round => (turn.abs() * 720.0 / PI).ceil() as i32,
-    };
-    let point = |step: i32| {
-        let angle = start + turn * step as f64 / steps as f64;
-        [
-            centre[0] + radius * angle.cos(),
-            centre[1] + radius * angle.sin(),
-        ]
-    };
-    let mut points = vec![centre];
-    points.extend((0..=steps).map(point));
+    let mut points = arc(centre, radius, start, turn);
+    if join == Join::Bevel {
+        points = vec![points[0], points[points.len() - 1]];
+    }
+    points.push(centre);
     if side > 0.0 {
         points.reverse();
     }

@@ -22,9 +22,12 @@ extern "C" {
     fn GEOSGeom_destroy_r(handle: Handle, g: Raw);
     fn GEOSUnaryUnion_r(handle: Handle, g: *const c_void) -> Raw;
     fn GEOSUnaryUnionPrec_r(handle: Handle, g: *const c_void, grid: c_double) -> Raw;
+    fn GEOSCoverageUnion_r(handle: Handle, g: *const c_void) -> Raw;
     fn GEOSPolygonize_r(handle: Handle, geoms: *const *const c_void, n: c_uint) -> Raw;
     fn GEOSGetNumGeometries_r(handle: Handle, g: *const c_void) -> c_int;
     fn GEOSGetGeometryN_r(handle: Handle, g: *const c_void, n: c_int) -> *const c_void;
+    fn GEOSGeom_createPointFromXY_r(handle: Handle, x: c_double, y: c_double) -> Raw;
+    fn GEOSContains_r(handle: Handle, a: *const c_void, b: *const c_void) -> c_char;
     fn GEOSPointOnSurface_r(handle: Handle, g: *const c_void) -> Raw;
     fn GEOSGeomGetX_r(handle: Handle, g: *const c_void, x: *mut c_double) -> c_int;
     fn GEOSGeomGetY_r(handle: Handle, g: *const c_void, y: *mut c_double) -> c_int;
@@ -141,6 +144,12 @@ impl Geos {
         self.collection(MULTILINESTRING, lines)
     }
 
+    /// Faces that meet in their sides only, as one.
+    pub fn merged(&self, faces: Vec<Shape>) -> Shape<'_> {
+        let faces = self.collection(GEOMETRYCOLLECTION, faces);
+        self.shape(unsafe { GEOSCoverageUnion_r(self.0, faces.raw()) })
+    }
+
     /// The union of polygons.
     pub fn union(&self, polygons: Vec<Shape>) -> Shape<'_> {
         let polygons = self.collection(GEOMETRYCOLLECTION, polygons);
@@ -189,6 +198,13 @@ impl<'a> Shape<'a> {
         let point = unsafe { GEOSPointOnSurface_r(self.geos.0, self.raw()) };
         let point = self.geos.shape(point);
         [point.number(GEOSGeomGetX_r), point.number(GEOSGeomGetY_r)]
+    }
+
+    /// Whether a point lies inside.
+    pub fn holds(&self, [x, y]: [f64; 2]) -> bool {
+        let point = unsafe { GEOSGeom_createPointFromXY_r(self.geos.0, x, y) };
+        let point = self.geos.shape(point);
+        unsafe { GEOSContains_r(self.geos.0, self.raw(), point.raw()) == 1 }
     }
 
     pub fn area(&self) -> f64 {
