@@ -57,9 +57,9 @@ fn towards([ax, ay]: [f64; 2], [bx, by]: [f64; 2]) -> [f64; 2] {
     [(bx - ax) / length, (by - ay) / length]
 }
 
-/// Points on an arc, its ends among them, in steps of at most a quarter degree.
-fn arc([x, y]: [f64; 2], radius: f64, from: f64, turn: f64) -> Vec<[f64; 2]> {
-    let steps = (turn.abs() * 720.0 / PI).ceil().max(1.0) as i32;
+/// Points on an arc, its ends among them, in steps of at most so many degrees.
+fn arc([x, y]: [f64; 2], radius: f64, from: f64, turn: f64, degrees: f64) -> Vec<[f64; 2]> {
+    let steps = (turn.abs().to_degrees() / degrees).ceil().max(1.0) as i32;
     let point = |step: i32| {
         let angle = from + turn * step as f64 / steps as f64;
         [x + radius * angle.cos(), y + radius * angle.sin()]
@@ -70,7 +70,7 @@ fn arc([x, y]: [f64; 2], radius: f64, from: f64, turn: f64) -> Vec<[f64; 2]> {
 /// Points on a vertex's circle.
 fn about(vertex: Vertex, from: f64, turn: f64) -> Vec<[f64; 2]> {
     let centre = [vertex.x as f64, vertex.y as f64];
-    arc(centre, vertex.radius as f64, from, turn)
+    arc(centre, vertex.radius as f64, from, turn, 1.0)
 }
 
 /// What a stroke should fill together: of each drawn step the two circles and
@@ -140,7 +140,7 @@ fn corner<'a>(
     }
     let side = if turn > 0.0 { -1.0 } else { 1.0 };
     let start = (side * ax).atan2(-side * ay);
-    let mut points = arc(centre, radius, start, turn);
+    let mut points = arc(centre, radius, start, turn, 0.25);
     if join == Join::Bevel {
         points = vec![points[0], points[points.len() - 1]];
     }

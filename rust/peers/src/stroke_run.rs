@@ -53,7 +53,8 @@ impl Areas {
         let ours = filled(geos, faces);
         let most = allowed(stroke);
         let hulls = hulls(geos, stroke);
-        let cores = hulls.iter().map(|hull| hull.grown(-1.01 * most));
+        // what shrinks is off by up to a hundredth of how far
+        let cores = hulls.iter().map(|hull| hull.grown(-1.03 * most));
         let (cores, due) = (geos.union(cores.collect()), geos.union(hulls));
         Areas {
             twice,
