@@ -47,7 +47,8 @@
  * Lent memory, for all calls:
  *
  * - Lengths count elements: int32_t in a path or in edges, float in the oldest
- *   chunks, size_t in a list of reasons, bytes in a store or a chunk.
+ *   chunks, size_t in a list of reasons, bytes in a store or a chunk. Of vertex
+ *   records it is the records that are counted.
  * - A pointer is never null and is aligned for its type, even where the length
  *   is 0. Where there is nothing to lend, pass the address of any variable of
  *   the type, and 0:
@@ -68,9 +69,10 @@
  *
  * The calls allocate nothing, keep nothing between calls, and may run in
  * several threads at once. On the stack sehmelir_draw and sehmelir_draw_kerb
- * take up to 528 KiB, sehmelir_keep, sehmelir_keep_kerb, sehmelir_read,
- * sehmelir_replace, sehmelir_reach, sehmelir_explain, sehmelir_list and
- * sehmelir_chunk_add up to 256 KiB, and
+ * take up to 528 KiB, sehmelir_draw_records up to 584 KiB, sehmelir_keep,
+ * sehmelir_keep_kerb, sehmelir_keep_records, sehmelir_read, sehmelir_replace,
+ * sehmelir_reach, sehmelir_explain, sehmelir_list and sehmelir_chunk_add up to
+ * 256 KiB, and
  * sehmelir_chunk_find, sehmelir_chunk_remove and sehmelir_chunk_compact up to
  * 32 KiB, so a thread that calls them needs more than that; the others take
  * below 1 KiB.
@@ -100,7 +102,7 @@ extern "C" {
 #define SEHMELIR_MOST_GRADE 8
 
 /* The bytes of stack that a call takes at most. */
-#define SEHMELIR_STACK_BYTES (528 * 1024)
+#define SEHMELIR_STACK_BYTES (584 * 1024)
 
 /* The bytes of an outline with so many vertices and edges. */
 #define SEHMELIR_OUTLINE_BYTES(vertices, edges)                                \
@@ -697,6 +699,71 @@ struct sehmelir_reply sehmelir_chunk_remove(uint8_t *chunk, size_t chunk_len,
  * Takes up to 32 KiB of stack.
  */
 struct sehmelir_reply sehmelir_chunk_compact(uint8_t *chunk, size_t chunk_len);
+
+/*
+ * A path may also be lent as the VERTEX RECORDS that its host holds. They are
+ * read where they lie, each once, and only read.
+ */
+struct sehmelir_vertex {
+    int32_t x;
+    int32_t y;
+    int32_t radius;
+};
+
+/*
+ * Draws the edges of a path of `vertices` records into `out`: reply, number and
+ * `out` are those of sehmelir_draw for the same numbers, three a vertex.
+ *
+ * The first of these that applies is the reply:
+ *
+ *     3 SEHMELIR_GRADE        the grade is not 1 to 8
+ *                             number: the grade
+ *     2 SEHMELIR_TOO_MANY     there are above 4,096 vertices
+ *                             number: the vertices
+ *     4 SEHMELIR_OUTSIDE      a vertex lies outside the limits
+ *                             number: the index of the first such vertex
+ *    18 SEHMELIR_WITHOUT_EDGES
+ *                             there is a vertex, and no edge: so it is where
+ *                             every radius is 0 or 1
+ *                             number: the vertices
+ *     5 SEHMELIR_NO_ROOM      out_len is below four times the edges
+ *                             number: the edges that there are
+ *     0 SEHMELIR_DONE         the edges stand in `out`, four numbers each
+ *                             number: the edges
+ *
+ * After 3 and 2 no record has been read. Takes up to 584 KiB of stack.
+ */
+struct sehmelir_reply sehmelir_draw_records(const struct sehmelir_vertex *path,
+                                            size_t vertices, uint32_t grade,
+                                            int32_t *out, size_t out_len);
+
+/*
+ * Keeps a path of `vertices` records, its grade and its edges as an outline in
+ * `out`: reply, number and `out` are those of sehmelir_keep for the same
+ * numbers, three a vertex.
+ *
+ * The first of these that applies is the reply:
+ *
+ *     3 SEHMELIR_GRADE        the grade is not 1 to 8
+ *                             number: the grade
+ *     2 SEHMELIR_TOO_MANY     there are above 4,096 vertices
+ *                             number: the vertices
+ *     4 SEHMELIR_OUTSIDE      a vertex lies outside the limits
+ *                             number: the index of the first such vertex
+ *    18 SEHMELIR_WITHOUT_EDGES
+ *                             there is a vertex, and no edge: so it is where
+ *                             every radius is 0 or 1
+ *                             number: the vertices
+ *     5 SEHMELIR_NO_ROOM      out_len is below the outline's bytes
+ *                             number: the bytes needed
+ *     0 SEHMELIR_DONE         the outline stands in `out`
+ *                             number: its bytes
+ *
+ * After 3 and 2 no record has been read. Takes up to 256 KiB of stack.
+ */
+struct sehmelir_reply sehmelir_keep_records(const struct sehmelir_vertex *path,
+                                            size_t vertices, uint32_t grade,
+                                            uint8_t *out, size_t out_len);
 
 #ifdef __cplusplus
 }

@@ -1,6 +1,6 @@
 /*
  * The calls from C, on one path: document 01's example 5, and how far a vertex
- * reaches on a few more; then why its edges are there, kerbs, the oldest chunks,
+ * reaches on a few more; then vertex records, why its edges are there, kerbs, the oldest chunks,
  * and many outlines in one chunk. One line for each check; the exit status is 1 if one of them fails.
  */
 #include "sehmelir.h"
@@ -135,6 +135,59 @@ static void check_draw(void) {
     int32_t none = 0;
     check_reply(sehmelir_draw(&none, 0, 1, &none, 0), SEHMELIR_DONE, 0, 0,
                 "draw of no vertices without room");
+}
+
+/* The same path as records, between canaries. */
+static void check_records(void) {
+    struct sehmelir_vertex records[4] = {
+        {-1, -2, -3}, {0, 0, 5}, {20, 0, 5}, {-4, -5, -6}};
+    const struct sehmelir_vertex *hedge = records + 1;
+    struct sehmelir_vertex before[4];
+    memcpy(before, records, sizeof before);
+
+    check(sizeof(struct sehmelir_vertex) == 12, "a record is three numbers");
+
+    struct numbers out, expected;
+    fill(&out, sizeof out);
+    expected = out;
+    check_reply(sehmelir_draw_records(hedge, 2, 1, out.lent, NUMBERS - 1),
+                SEHMELIR_NO_ROOM, EDGES, 0,
+                "draw of records is refused one number short");
+    check_reply(sehmelir_draw_records(hedge, 2, 9, out.lent, NUMBERS),
+                SEHMELIR_GRADE, 9, 0, "draw of records at grade 9");
+    check_reply(sehmelir_draw_records(hedge, 3, 1, out.lent, NUMBERS),
+                SEHMELIR_OUTSIDE, 2, 0,
+                "draw of records, one outside the limits");
+    static const struct sehmelir_vertex many[SEHMELIR_MOST_VERTICES + 1];
+    check_reply(sehmelir_draw_records(many, SEHMELIR_MOST_VERTICES + 1, 1,
+                                      out.lent, NUMBERS),
+                SEHMELIR_TOO_MANY, 4097, 0, "draw of 4,097 records");
+    check_reply(sehmelir_draw_records(many, SEHMELIR_MOST_VERTICES, 1, out.lent,
+                                      NUMBERS),
+                SEHMELIR_WITHOUT_EDGES, 4096, 0, "draw of records without edges");
+    check(memcmp(&out, &expected, sizeof out) == 0,
+          "refusals of records change nothing");
+    check_reply(
+        sehmelir_draw_records(hedge, 2, 1, out.lent, NUMBERS + SPARE),
+        SEHMELIR_DONE, EDGES, 0, "draw of records gives ten edges");
+    memcpy(expected.lent, edges, sizeof edges);
+    check(memcmp(&out, &expected, sizeof out) == 0,
+          "draw of records writes the edges and nothing else");
+
+    struct bytes kept, outline;
+    fill(&kept, sizeof kept);
+    outline = kept;
+    check_reply(sehmelir_keep_records(hedge, 2, 1, kept.lent, OUTLINE - 1),
+                SEHMELIR_NO_ROOM, OUTLINE, 0,
+                "keep of records is refused one byte short");
+    check(memcmp(&kept, &outline, sizeof kept) == 0,
+          "a refused keep of records changes nothing");
+    check_reply(sehmelir_keep_records(hedge, 2, 1, kept.lent, OUTLINE),
+                SEHMELIR_DONE, OUTLINE, 0, "keep of records gives the outline");
+    put_outline(outline.lent);
+    check(memcmp(&kept, &outline, sizeof kept) == 0,
+          "keep of records writes the outline and nothing else");
+    check(memcmp(records, before, sizeof before) == 0, "records are only read");
 }
 
 static void check_keep(void) {
@@ -697,6 +750,7 @@ int main(void) {
           "a reply is two 32-bit numbers and a 64-bit one");
     check_draw();
     check_keep();
+    check_records();
     check_read();
     check_replace();
     check_reach();

@@ -3,3 +3,4 @@ pub mod Told
 pub mod OneReply
 pub mod ChunkTold
 pub mod ReasonTold
+pub mod OwnArray

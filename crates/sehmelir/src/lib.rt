@@ -32,6 +32,7 @@ ghost use Rattle.oldest.specs.Answers.{replyOfImported, replyOfExported};
 
 pub mod chunk_calls;
 pub mod reason_calls;
+pub mod record_calls;
 
 // Document 01's reply, the grade beside it (of a read outline, else 0), and the number with it.
 #[repr(C)]

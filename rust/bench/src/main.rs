@@ -4,6 +4,7 @@
 mod clock;
 mod inputs;
 mod programs;
+mod records;
 mod rounds;
 mod table;
 mod tiles;
@@ -18,10 +19,13 @@ use table::{Layout, Table};
 const USAGE: &str = "\
 bench [--markdown] [CALL...]
   --markdown   the table for docs/SPEED.md
-  CALL         draw, keep, read, replace or tiles: times only these";
+  CALL         draw, keep, read, replace, tiles or records: times only these";
 
 /// The name of what is timed of tiles.
 const TILES: &str = "tiles";
+
+/// The name of what is timed of vertex records, beside the library itself.
+const RECORDS: &str = "records";
 
 const GRADES: [u32; 3] = [1, 4, 8];
 
@@ -36,7 +40,9 @@ fn main() -> ExitCode {
         ["--markdown"] => Some(Layout::Markdown),
         _ => None,
     };
+    let all = names.is_empty();
     let (tiles, names): (Vec<&str>, Vec<&str>) = names.iter().partition(|&&name| name == TILES);
+    let (records, names): (Vec<&str>, Vec<&str>) = names.iter().partition(|&&name| name == RECORDS);
     let (Some(layout), Some(calls)) = (layout, calls(&names)) else {
         eprintln!("{USAGE}");
         return ExitCode::from(2);
@@ -47,12 +53,16 @@ fn main() -> ExitCode {
     }
     println!("{}", conditions());
     println!();
-    if !names.is_empty() || tiles.is_empty() {
+    if all || !names.is_empty() {
         print!("{}", timed(&calls).laid_out(layout));
         println!();
     }
-    if !tiles.is_empty() || names.is_empty() {
+    if all || !tiles.is_empty() {
         print!("{}", tiles::timed().laid_out(layout));
+        println!();
+    }
+    if all || !records.is_empty() {
+        print!("{}", records::timed().laid_out(layout));
     }
     ExitCode::SUCCESS
 }

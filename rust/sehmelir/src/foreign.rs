@@ -1,6 +1,6 @@
 //! The archive's calls, as `include/sehmelir.h` declares them, on slices.
 
-use crate::{Form, Join, Kept, Refusal, Style, Untaken};
+use crate::{Form, Join, Kept, Refusal, Style, Untaken, Vertex};
 
 /// `struct sehmelir_reply`.
 #[repr(C)]
@@ -170,6 +170,22 @@ extern "C" {
     ) -> Reply;
 
     fn sehmelir_export(path: *const i32, path_len: usize, out: *mut f32, out_len: usize) -> Reply;
+
+    fn sehmelir_draw_records(
+        path: *const Vertex,
+        vertices: usize,
+        grade: u32,
+        out: *mut i32,
+        out_len: usize,
+    ) -> Reply;
+
+    fn sehmelir_keep_records(
+        path: *const Vertex,
+        vertices: usize,
+        grade: u32,
+        out: *mut u8,
+        out_len: usize,
+    ) -> Reply;
 }
 
 // SAFETY, of every call below: the archive asks for pointers that are not null
@@ -258,4 +274,28 @@ pub fn import(numbers: &[f32], out: &mut [i32]) -> Reply {
 
 pub fn export(path: &[i32], out: &mut [f32]) -> Reply {
     unsafe { sehmelir_export(path.as_ptr(), path.len(), out.as_mut_ptr(), out.len()) }
+}
+
+pub fn draw_records(path: &[Vertex], grade: u32, out: &mut [i32]) -> Reply {
+    unsafe {
+        sehmelir_draw_records(
+            path.as_ptr(),
+            path.len(),
+            grade,
+            out.as_mut_ptr(),
+            out.len(),
+        )
+    }
+}
+
+pub fn keep_records(path: &[Vertex], grade: u32, out: &mut [u8]) -> Reply {
+    unsafe {
+        sehmelir_keep_records(
+            path.as_ptr(),
+            path.len(),
+            grade,
+            out.as_mut_ptr(),
+            out.len(),
+        )
+    }
 }

@@ -5,6 +5,7 @@ mod chunk;
 mod foreign;
 mod form;
 mod reason;
+mod records;
 mod refusal;
 mod untaken;
 
@@ -13,6 +14,7 @@ use std::ops::RangeInclusive;
 pub use chunk::{table_bytes, Chunk, MOST_ENTRIES};
 pub use form::{Form, Join, Kept, Style};
 pub use reason::{explain, list, whys, Reason, Why};
+pub use records::{draw_records, keep_records, Vertex};
 pub use refusal::Refusal;
 pub use untaken::Untaken;
 
@@ -30,7 +32,7 @@ pub const GRADES: RangeInclusive<u32> = 1..=8;
 
 /// The bytes of stack that a call takes at most: a thread that calls needs
 /// more than that.
-pub const STACK: usize = 528 << 10;
+pub const STACK: usize = 584 << 10;
 
 /// The bytes of an outline with so many vertices and edges.
 ///

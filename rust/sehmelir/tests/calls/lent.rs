@@ -1,6 +1,6 @@
 //! The calls on memory between canaries.
 
-use sehmelir::{Chunk, Join, Kept, Refusal, Style, Why};
+use sehmelir::{Chunk, Join, Kept, Refusal, Style, Vertex, Why};
 use std::fmt::Debug;
 use std::ops::Range;
 
@@ -59,6 +59,37 @@ pub fn draw(path: &[i32], grade: u32, room: &[i32]) -> Outcome<usize, i32> {
 pub fn keep(path: &[i32], grade: u32, room: &[u8]) -> Outcome<usize, u8> {
     lend_to_read(path, |path| {
         lend(room, |out| sehmelir::keep(path, grade, out))
+    })
+}
+
+/// A path of records between canaries that are records too, in memory that is
+/// only read, lent beside room.
+fn lend_records<T>(
+    path: &[Vertex],
+    room: &[T],
+    call: impl FnOnce(&[Vertex], &mut [T]) -> Result<usize, Refusal>,
+) -> Outcome<usize, T>
+where
+    T: Copy + Debug + From<u8> + PartialEq,
+{
+    let canary = Vertex::from([i32::MIN, i32::MAX, -1]);
+    let mut memory = vec![canary; path.len() + 2];
+    memory[1..=path.len()].copy_from_slice(path);
+    let before = memory.clone();
+    let outcome = lend(room, |out| call(&memory[1..=path.len()], out));
+    assert_eq!(memory, before, "written where it only reads");
+    outcome
+}
+
+pub fn draw_records(path: &[Vertex], grade: u32, room: &[i32]) -> Outcome<usize, i32> {
+    lend_records(path, room, |path, out| {
+        sehmelir::draw_records(path, grade, out)
+    })
+}
+
+pub fn keep_records(path: &[Vertex], grade: u32, room: &[u8]) -> Outcome<usize, u8> {
+    lend_records(path, room, |path, out| {
+        sehmelir::keep_records(path, grade, out)
     })
 }
 

@@ -9,5 +9,6 @@ mod lent;
 mod making;
 mod oldest;
 mod reasons;
+mod records;
 mod refusals;
 mod stack;

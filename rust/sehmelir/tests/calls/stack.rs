@@ -1,16 +1,20 @@
 //! How much stack the calls take.
 
 use sehmelir::{
-    draw, draw_kerb, explain, keep, keep_kerb, kerb_bytes, list, outline, reach, read, replace,
+    draw, draw_kerb, draw_records, explain, keep, keep_kerb, keep_records, kerb_bytes, list,
+    outline, outline_bytes, reach, read, replace,
 };
-use sehmelir::{Chunk, Join, Refusal, Style};
+use sehmelir::{Chunk, Join, Refusal, Style, Vertex};
 use std::thread::Builder;
 
 /// What draw and draw_kerb may take, and some for the thread that calls them.
-const FOR_DRAW: usize = sehmelir::STACK + 32 * 1024;
+const FOR_DRAW: usize = (528 + 32) * 1024;
 
-/// What keep, keep_kerb, read, replace, reach, explain, list and a chunk's add
-/// may take, and as much for the thread.
+/// The same of draw_records.
+const FOR_RECORDS: usize = sehmelir::STACK + 32 * 1024;
+
+/// What keep, keep_kerb, keep_records, read, replace, reach, explain, list and a
+/// chunk's add may take, and as much for the thread.
 const FOR_OTHERS: usize = (256 + 32) * 1024;
 
 /// What a chunk's find, remove and compact may take, and as much for the
@@ -48,6 +52,28 @@ fn is_at_most_what_is_said() {
             assert!(explain(&store, edges / 2).is_ok());
             let mut numbers = vec![0; 3 * (edges + 2_000)];
             assert!(list(&store, &mut numbers).is_ok());
+        });
+    }
+}
+
+/// The same of a path of records.
+#[test]
+fn of_records_is_too() {
+    for (count, grade) in [(4096, 1), (40, 8), (1000, 7)] {
+        let vertex = |place: i32| Vertex::from([50 * place, 20 * (place % 3), 10 + place % 4]);
+        let path: Vec<Vertex> = (0..count).map(vertex).collect();
+        let lent = path.clone();
+        let edges = on_a_stack_of(FOR_RECORDS, move || {
+            let Err(Refusal::NoRoom(edges)) = draw_records(&lent, grade, &mut []) else {
+                panic!("nothing drawn");
+            };
+            let mut numbers = vec![0; 4 * edges];
+            assert_eq!(draw_records(&lent, grade, &mut numbers), Ok(edges));
+            edges
+        });
+        on_a_stack_of(FOR_OTHERS, move || {
+            let mut store = vec![0; outline_bytes(path.len(), edges)];
+            assert_eq!(keep_records(&path, grade, &mut store), Ok(store.len()));
         });
     }
 }

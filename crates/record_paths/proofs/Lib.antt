@@ -1,0 +1,5 @@
+-- The crate's own laws.
+pub mod Counted
+pub mod WantedRecords
+pub mod GatheredAnswers
+pub mod WholeVertices

@@ -1,0 +1,44 @@
+-- Document 02, request 4: a path of n records as numbers, three a record, of which those stand gathered that draw and keep read.
+use mathlib.Core.Path.{_≡_}
+use mathlib.Core.List.{List, [], _∷_}
+use Prim.Native.Nat.{ℕ, _*_, _≤_}
+use lib.IntN.{ℤ}
+use lib.ListN.{length, take}
+use Rattle.runs.specs.Runs.{spread}
+use Rattle.records.specs.Records.{recordNumbers}
+use Rattle.records.specs.declared.Record.{Record}
+use Rattle.replies.specs.Replies.{firstRow, gradeRow, countRow}
+use Rattle.replies.specs.Checks.{PathSays}
+use Rattle.replies.specs.declared.Refusal.{Refusal}
+use Rattle.replies.specs.declared.path_rows.PathCheck.{PathCheck}
+use Rattle.replies.specs.declared.path_rows.PathCheck.the-variants.{Passed, Refused}
+use Rattle.drawing.specs.Drawing.{drawReply, Draws}
+use Rattle.drawing.specs.declared.Drawn.{Drawn}
+use Rattle.keeping.specs.Keeping.{keepReply, Keeps}
+use Rattle.keeping.specs.declared.Kept.{Kept}
+
+-- How many of n records are read: none where 3 or 2 is the reply, else all.
+unfoldable pub wantedOf : ℕ → ℕ → ℕ
+wantedOf n g = firstRow ((gradeRow g .0, 0) ∷ (countRow n .0, 0) ∷ []) n
+
+-- The path is three numbers a record, and those that are wanted stand first among the numbers.
+pub record Gathered (numbers : List ℤ) (n grade : ℕ) (path : List ℤ) : Type 0 where
+  pub long : length path ≡ 3 * n
+  pub first : take (3 * wantedOf n grade) numbers ≡ take (3 * wantedOf n grade) path
+
+-- What grade and count decide of every path of so many records.
+pub record CountSays (n grade : ℕ) (r : PathCheck) : Type 0 where
+  pub refused : (path : List ℤ) (why : Refusal) → length path ≡ 3 * n → r ≡ Refused why → PathSays path grade r
+  pub wanted : (why : Refusal) → r ≡ Refused why → wantedOf n grade ≡ 0
+  pub passed : (m : ℕ) → r ≡ Passed m → (m ≡ n) × (wantedOf n grade ≡ n) × (n ≤ 4096)
+
+-- draw and keep, of whatever path is gathered
+pub record DrawsGathered (numbers : List ℤ) (n grade : ℕ) (out₀ : List ℤ) (r : Drawn) (out₁ : List ℤ) : Type 0 where
+  pub draws : (path : List ℤ) → Gathered numbers n grade path → Draws path grade out₀ r out₁
+
+pub record KeepsGathered (numbers : List ℤ) (n grade : ℕ) (out₀ : List ℕ) (r : Kept) (out₁ : List ℕ) : Type 0 where
+  pub keeps : (path : List ℤ) → Gathered numbers n grade path → Keeps path grade out₀ r out₁
+
+-- Records are whole vertices: 1 is the reply to none.
+abbrev pub NeverUneven : Type 0
+NeverUneven = (vs : List Record) (g room : ℕ) → (drawReply (spread recordNumbers vs) g room .0 ≡ 1 → ⊥) × (keepReply (spread recordNumbers vs) g room .0 ≡ 1 → ⊥)

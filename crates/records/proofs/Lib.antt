@@ -1,0 +1,3 @@
+-- The crate's own laws.
+pub mod Again
+pub mod Gathered
