@@ -443,11 +443,17 @@ struct sehmelir_reason {
     uint64_t vertex; /* the vertex on reaching which the edge is drawn; the
                         number of vertices if it is drawn at the end */
     uint64_t place;  /* how many edges the rule drew there before it */
+    uint32_t start_exact; /* of a side, 1 if the contact at its start is exact:
+                             no division that gave it left anything over; else
+                             0, and 0 for every edge that is no side */
+    uint32_t end_exact;   /* the same of the contact at its end */
 };
 
 /*
  * Tells why the edge of the given number, counted from 0, is there in a sound
  * outline. No two edges of an outline have the same reason, vertex and place.
+ * Of a side it tells too which of its two contacts are exact, as the edge runs:
+ * a left side starts at the later vertex, a right side at the earlier one.
  *
  * The first of these that applies is the reply:
  *
@@ -476,7 +482,8 @@ struct sehmelir_reason {
  *                             number: its kind, 1
  *    10 SEHMELIR_NO_EDGE      the number is not below the edges
  *                             number: the edge's number
- *     0 SEHMELIR_DONE         beside the reply stand reason, vertex and place
+ *     0 SEHMELIR_DONE         beside the reply stand reason, vertex and place,
+ *                             and which ends of a side are exact
  *                             number: the edge's number
  *
  * The store is only read. Takes up to 256 KiB of stack.
@@ -485,17 +492,17 @@ struct sehmelir_reason sehmelir_explain(const uint8_t *store, size_t store_len,
                                         size_t edge);
 
 /*
- * Lists why each edge of a sound outline is there, in the edges' order, three
- * numbers an edge in `out`: reason, vertex and place, as sehmelir_explain tells
- * them. The time that it takes grows with the edges.
+ * Lists why each edge of a sound outline is there, in the edges' order, five
+ * numbers an edge in `out`: reason, vertex, place, start_exact and end_exact, as
+ * sehmelir_explain tells them. The time that it takes grows with the edges.
  *
  * The first of these that applies is the reply:
  *
  *     6, 7, 6, 3, 11, 2, 6, 4, 8, 12
  *                             those of sehmelir_explain, but 10
- *     5 SEHMELIR_NO_ROOM      out_len is below three times the edges
+ *     5 SEHMELIR_NO_ROOM      out_len is below five times the edges
  *                             number: the edges that there are
- *     0 SEHMELIR_DONE         the reasons stand in `out`, three numbers each
+ *     0 SEHMELIR_DONE         the reasons stand in `out`, five numbers each
  *                             number: the edges
  *
  * The store is only read. Takes up to 256 KiB of stack.

@@ -342,25 +342,27 @@ static void check_reach(void) {
 }
 
 static void check_reason(struct sehmelir_reason given, uint32_t reply,
-                         uint64_t number, const size_t why[3],
+                         uint64_t number, const size_t why[5],
                          const char *what) {
     struct sehmelir_reply front = {given.reply, 0, given.number};
     check_reply(front, reply, number, 0, what);
     if (given.reason != why[0] || given.vertex != why[1] ||
         given.place != why[2])
         check(false, "  with its reason, vertex and place");
+    if (given.start_exact != why[3] || given.end_exact != why[4])
+        check(false, "  and with which of its ends are exact");
 }
 
 /* beside a refusal */
-static const size_t unnamed[3] = {0, 0, 0};
+static const size_t unnamed[5] = {0, 0, 0, 0, 0};
 
 static void check_explain(void) {
-    static const size_t whys[EDGES][3] = {
-        {SEHMELIR_LEFT_SIDE, 1, 0}, {SEHMELIR_RIGHT_SIDE, 1, 0},
-        {SEHMELIR_START_CAP, 1, 0}, {SEHMELIR_START_CAP, 1, 1},
-        {SEHMELIR_START_CAP, 1, 2}, {SEHMELIR_START_CAP, 1, 3},
-        {SEHMELIR_END_CAP, 2, 0},   {SEHMELIR_END_CAP, 2, 1},
-        {SEHMELIR_END_CAP, 2, 2},   {SEHMELIR_END_CAP, 2, 3},
+    static const size_t whys[EDGES][5] = {
+        {SEHMELIR_LEFT_SIDE, 1, 0, 1, 1}, {SEHMELIR_RIGHT_SIDE, 1, 0, 1, 1},
+        {SEHMELIR_START_CAP, 1, 0, 0, 0}, {SEHMELIR_START_CAP, 1, 1, 0, 0},
+        {SEHMELIR_START_CAP, 1, 2, 0, 0}, {SEHMELIR_START_CAP, 1, 3, 0, 0},
+        {SEHMELIR_END_CAP, 2, 0, 0, 0},   {SEHMELIR_END_CAP, 2, 1, 0, 0},
+        {SEHMELIR_END_CAP, 2, 2, 0, 0},   {SEHMELIR_END_CAP, 2, 3, 0, 0},
     };
     struct bytes store, same;
     fill(&store, sizeof store);
@@ -379,27 +381,38 @@ static void check_explain(void) {
                  SEHMELIR_NOT_OUTLINE, 0, unnamed,
                  "explain in a store one byte short");
 
-    size_t out[CANARIES + 3 * EDGES + CANARIES];
-    size_t expected[CANARIES + 3 * EDGES + CANARIES];
+    size_t out[CANARIES + 5 * EDGES + CANARIES];
+    size_t expected[CANARIES + 5 * EDGES + CANARIES];
     fill(out, sizeof out);
     memcpy(expected, out, sizeof out);
     check_reply(sehmelir_list(store.lent, OUTLINE, out + CANARIES, 0),
                 SEHMELIR_NO_ROOM, EDGES, 0, "a list without room");
     check_reply(
-        sehmelir_list(store.lent, OUTLINE, out + CANARIES, 3 * EDGES - 1),
+        sehmelir_list(store.lent, OUTLINE, out + CANARIES, 5 * EDGES - 1),
         SEHMELIR_NO_ROOM, EDGES, 0, "a list one number short");
     check(memcmp(out, expected, sizeof out) == 0,
           "these refusals change nothing");
-    check_reply(sehmelir_list(store.lent, OUTLINE, out + CANARIES, 3 * EDGES),
+    check_reply(sehmelir_list(store.lent, OUTLINE, out + CANARIES, 5 * EDGES),
                 SEHMELIR_DONE, EDGES, 0, "all edges are listed");
     check_reply(
-        sehmelir_list(store.lent, OUTLINE, out + CANARIES, 3 * EDGES + 2),
+        sehmelir_list(store.lent, OUTLINE, out + CANARIES, 5 * EDGES + 2),
         SEHMELIR_DONE, EDGES, 0, "and again, with room to spare");
     memcpy(expected + CANARIES, whys, sizeof whys);
     check(memcmp(out, expected, sizeof out) == 0,
           "each with its reason, and nothing else changed");
     check(memcmp(&store, &same, sizeof store) == 0,
           "the store is as it was");
+
+    /* the radius of 0 at the end is exact, the contacts at the start are not */
+    static const int32_t point[6] = {0, 0, 5, 7, 2, 0};
+    static const size_t left[5] = {SEHMELIR_LEFT_SIDE, 1, 0, 1, 0};
+    static const size_t right[5] = {SEHMELIR_RIGHT_SIDE, 1, 0, 0, 1};
+    uint8_t kept[1024];
+    size_t bytes = sehmelir_keep(point, 6, 1, kept, sizeof kept).number;
+    check_reason(sehmelir_explain(kept, bytes, 0), SEHMELIR_DONE, 0, left,
+                 "a left side runs to the first vertex");
+    check_reason(sehmelir_explain(kept, bytes, 1), SEHMELIR_DONE, 1, right,
+                 "a right side runs from it");
 }
 
 /* The outline with one word changed: the calls over a store refuse it alike. */
@@ -754,12 +767,14 @@ int main(void) {
     check_read();
     check_replace();
     check_reach();
-    check(sizeof(struct sehmelir_reason) == 32 &&
+    check(sizeof(struct sehmelir_reason) == 40 &&
               offsetof(struct sehmelir_reason, reason) == 4 &&
               offsetof(struct sehmelir_reason, number) == 8 &&
               offsetof(struct sehmelir_reason, vertex) == 16 &&
-              offsetof(struct sehmelir_reason, place) == 24,
-          "a reason is two 32-bit numbers and three 64-bit ones");
+              offsetof(struct sehmelir_reason, place) == 24 &&
+              offsetof(struct sehmelir_reason, start_exact) == 32 &&
+              offsetof(struct sehmelir_reason, end_exact) == 36,
+          "a reason is two 32-bit numbers, three 64-bit and two 32-bit ones");
     check_explain();
     check_damage();
     check_draw_kerb();

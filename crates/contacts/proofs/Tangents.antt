@@ -1,6 +1,6 @@
 -- The tangent, the numerators, the contacts and the section, from what the code has computed, on bits where it is signed. Assumes nothing.
 use mathlib.Core.Path.{_≡_, refl, ap, _∙_}
-use mathlib.Core.Bool.{false}
+use mathlib.Core.Bool.{Bool, false, _&&_}
 use Prim.Native.Nat.{ℕ, _-_, _*_, _%_, _^_, _≤_, _<_}
 use native.Mathlib.Nat.{mul-le-mul-right, one-mul, mod-eq-of-lt, le-of-lt}
 use native.Mathlib.Omega.{arith}
@@ -17,18 +17,19 @@ use Rattle.whole.proofs.Signed.{mul-right-commℤ}
 use Rattle.whole.proofs.Sizes.{sfits, abs-neg, abs-mul, size-mul, size-add, size-sub, size-fits}
 use Rattle.whole.proofs.Squares.{square-le, four-power, scaled-square}
 use Rattle.number.specs.Root.{rootOf}
-use Rattle.number.specs.MulDiv.{mulDivOf}
+use Rattle.number.specs.MulDiv.{mulDivOf, exactOf}
 use Rattle.number.proofs.Nearest.{mul-div-most}
 use Rattle.plane.specs.Vectors.{squareOf}
 use Rattle.plane.proofs.Products.{bits, back, size-back, near-fits}
 use Rattle.plane.specs.declared.Vector.{Vector}
 use Rattle.turning.specs.Bounds.{Radius}
 use Rattle.turning.specs.declared.Edge.{Edge}
-use Rattle.contacts.specs.Contacts.{lineOf, deltaOf, shiftOf, tangentOf, numeratorOf, contactOf, sideOf, trendOf, sectionOf, brokenOf}
+use Rattle.contacts.specs.Contacts.{lineOf, deltaOf, shiftOf, tangentOf, numeratorOf, contactOf, sideOf, contactExact, sideExact, trendOf, sectionOf, brokenOf}
 use Rattle.contacts.specs.Bounds.{Inside, Line}
 use Rattle.contacts.proofs.Steps.{delta-fits}
 use Rattle.contacts.proofs.Contacts.{Shifts, line-is, shift-is, tangent-square, component-most, not-broken, step-shifts, divisor-some, side-square}
 use Rattle.contacts.specs.declared.Vertex.{Vertex}
+use Rattle.contacts.specs.declared.Exactness.{Exactness}
 use Rattle.contacts.specs.declared.Trend.{Trend}
 
 -- ---- the tangent
@@ -178,6 +179,13 @@ module _ (x radius n : ℤ) (d : ℕ) (hx : Size (2 ^ 28) x) (hr : Size (2 ^ 28)
     pub moved-back : bits (bits x +ℤ bits m) ≡ x +ℤ mulDivOf radius n d
     moved-back = rw (offset-is, back (limit-fits hx), back (limit-fits offset-size), back (near-fits place-size))
 
+  -- what is left over is told of the bits
+  pub moved-exact : {e : Bool} → e ≡ exactOf (bits radius) (bits n) (natAbs (toZ w64 d)) → e ≡ exactOf radius n d
+  moved-exact f = rw (back (limit-fits hr), back part-fits, read) at f
+
+  place-exact : {e : Bool} → e ≡ exactOf (bits radius) (bits n) d → e ≡ exactOf radius n d
+  place-exact f = rw (back (limit-fits hr), back part-fits) at f
+
   place-back : {p : ℤ} → p ≡ bits x +ℤ mulDivOf (bits radius) (bits n) d → bits p ≡ x +ℤ mulDivOf radius n d
   place-back {p} e =
       let f : p ≡ x +ℤ mulDivOf radius n d = rw (back (limit-fits hx), back (limit-fits hr), back part-fits) at e in
@@ -203,6 +211,15 @@ module _ (d : ℕ) (n : Vector) (v : Vertex) (h : Inside v) (k : squareOf n ≤ 
     x = place-back (v .x) (v .radius) (n .x) d (h .x) (radius-size (h .radius)) (within .0) i l e j;
     y = place-back (v .y) (v .radius) (n .y) d (h .y) (radius-size (h .radius)) (within .1) i l f j;
   }
+
+  pub contact-even : {p q r : Bool} → p ≡ exactOf (bits (v .radius)) (bits (n .x)) d → q ≡ exactOf (bits (v .radius)) (bits (n .y)) d → r ≡ p && q → r ≡ contactExact d n v
+  unfolding contactExact
+  contact-even e f g =
+      g
+      ∙ rw (
+        place-exact (v .x) (v .radius) (n .x) d (h .x) (radius-size (h .radius)) (within .0) i l e,
+        place-exact (v .y) (v .radius) (n .y) d (h .y) (radius-size (h .radius)) (within .1) i l f,
+      )
 
 -- ---- a section
 
@@ -235,10 +252,15 @@ module _ {a b : Vertex} (h : Inside a) (k : Inside b) (e : brokenOf a b ≡ fals
   pub right-ready : Inside a × Inside b × (squareOf r ≤ d * d) × (0 < d) × (d < 2 ^ 62)
   right-ready = (h, k, rw (o .right, o .divisor) (side-square h k e _ (abs-neg (pos (tangentOf (squareOf (lineOf a b)) (deltaOf a b))))), divisor-ready .0, divisor-ready .1)
 
-pub section-is : (a b : Vertex) {l r : Vector} {d : ℕ} {m n : Edge} {t : Trend} → Offset a b l r d → (m .a ≡ contactOf d l a) × (m .b ≡ contactOf d l b)
-    → (n .a ≡ contactOf d r a) × (n .b ≡ contactOf d r b) → t ≡ trendOf a b → record { a = a; b = b; left = m; right = n; trend = t } ≡ sectionOf a b
-unfolding sectionOf sideOf
-section-is a b {l} {r} {d} {m} {n} {t} o p q e =
-    let m′ : m ≡ record { a = contactOf d l a; b = contactOf d l b } = λ i. record { a = p .0 i; b = p .1 i } in
-    let n′ : n ≡ record { a = contactOf d r a; b = contactOf d r b } = λ i. record { a = q .0 i; b = q .1 i } in
-    rw (m′, n′, e, o .left, o .right, o .divisor)
+-- one side of it, for the numerator s
+pub record ContactsAre (a b : Vertex) (d : ℕ) (s : Vector) (m : Edge) (x : Exactness) : Type 0 where
+  pub edge : m ≡ record { a = contactOf d s a; b = contactOf d s b }
+  pub exact : x ≡ record { a = contactExact d s a; b = contactExact d s b }
+
+pub contacts-are : {a b : Vertex} {d : ℕ} {s : Vector} {m : Edge} {x : Exactness} → (m .a ≡ contactOf d s a) × (m .b ≡ contactOf d s b) → (x .a ≡ contactExact d s a) × (x .b ≡ contactExact d s b) → ContactsAre a b d s m x
+contacts-are p q = record { edge = λ i. record { a = p .0 i; b = p .1 i }; exact = λ i. record { a = q .0 i; b = q .1 i } }
+
+pub section-is : (a b : Vertex) {l r : Vector} {d : ℕ} {m n : Edge} {x y : Exactness} {t : Trend} → Offset a b l r d → ContactsAre a b d l m x → ContactsAre a b d r n y → t ≡ trendOf a b
+    → record { a = a; b = b; left = m; right = n; trend = t; exact = record { left = x; right = y } } ≡ sectionOf a b
+unfolding sectionOf sideOf sideExact
+section-is a b o p q e = rw (p .edge, q .edge, p .exact, q .exact, e, o .left, o .right, o .divisor)

@@ -1,12 +1,12 @@
--- Document 01, "Contacts" and "Three kinds of step".
-use mathlib.Core.Bool.{Bool, true, false}
+-- Document 01, "Contacts" and "Three kinds of step". Document 02, request 7: whether contacts are exact.
+use mathlib.Core.Bool.{Bool, true, false, _&&_}
 use Prim.Native.Nat.{ℕ, _+_, _-_, _*_, _/_, _^_}
 use lib.Count.{leadingZeros}
 use lib.Dec.{leb}
 use lib.IntN.{ℤ, pos, negℤ, natAbs, _+ℤ_, _-ℤ_, _*ℤ_}
 use lib.Signed.{leZ, ltZ}
 use Rattle.number.specs.Root.{rootOf}
-use Rattle.number.specs.MulDiv.{mulDivOf}
+use Rattle.number.specs.MulDiv.{mulDivOf, exactOf}
 use Rattle.plane.specs.Vectors.{fromTo, squareOf}
 use Rattle.plane.specs.declared.Point.{Point}
 use Rattle.plane.specs.declared.Vector.{Vector}
@@ -14,6 +14,7 @@ use Rattle.turning.specs.declared.Edge.{Edge}
 use Rattle.contacts.specs.declared.Vertex.{Vertex}
 use Rattle.contacts.specs.declared.Trend.{Trend}
 use Rattle.contacts.specs.declared.Trend.the-variants.{Decreasing, Constant, Increasing}
+use Rattle.contacts.specs.declared.Exactness.{Exactness}
 use Rattle.contacts.specs.declared.Section.{Section}
 use Rattle.contacts.specs.declared.Kind.{Kind}
 use Rattle.contacts.specs.declared.Kind.the-variants.{Broken, Drawn, Thin}
@@ -57,6 +58,19 @@ sideOf a b tangent =
     let d : ℕ = squareOf v * 2 ^ s in
     record { a = contactOf d n a; b = contactOf d n b }
 
+-- Document 02, request 7: a contact is exact when both components came out even. It is about the division only; a root that was cut short doesn't clear it.
+unfoldable pub contactExact : ℕ → Vector → Vertex → Bool
+contactExact divisor n v = exactOf (v .radius) (n .x) divisor && exactOf (v .radius) (n .y) divisor
+
+-- the same of the contacts of a and of b on one side
+unfoldable pub sideExact : Vertex → Vertex → ℤ → Exactness
+sideExact a b tangent =
+    let v = lineOf a b in
+    let s = shiftOf (squareOf v) in
+    let n = numeratorOf v (deltaOf a b) s tangent in
+    let d : ℕ = squareOf v * 2 ^ s in
+    record { a = contactExact d n a; b = contactExact d n b }
+
 -- Trend is decreasing, constant or increasing as ra is above, equal to or below rb.
 unfoldable pub trendOf : Vertex → Vertex → Trend
 trendOf a b = elim (ltZ (b .radius) (a .radius)) [ true ↦ Decreasing | false ↦ elim (ltZ (a .radius) (b .radius)) [ true ↦ Increasing | false ↦ Constant ] ]
@@ -64,7 +78,14 @@ trendOf a b = elim (ltZ (b .radius) (a .radius)) [ true ↦ Decreasing | false �
 unfoldable pub sectionOf : Vertex → Vertex → Section
 sectionOf a b =
     let t = tangentOf (squareOf (lineOf a b)) (deltaOf a b) in
-    record { a = a; b = b; left = sideOf a b (pos t); right = sideOf a b (negℤ (pos t)); trend = trendOf a b }
+    record {
+      a = a;
+      b = b;
+      left = sideOf a b (pos t);
+      right = sideOf a b (negℤ (pos t));
+      trend = trendOf a b;
+      exact = record { left = sideExact a b (pos t); right = sideExact a b (negℤ (pos t)) };
+    }
 
 -- ---- Three kinds of step
 

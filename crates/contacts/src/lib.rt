@@ -19,13 +19,26 @@ pub enum Trend {
     Increasing,
 }
 
-// A drawn step from a to b: its contacts, from a's to b's, on the left and on the right.
+// Which ends of an edge are exact contacts (document 02, request 7).
+pub struct Exactness {
+    pub a: bool,
+    pub b: bool,
+}
+
+// The same of both sides of a section: four marks, one a contact.
+pub struct ExactSides {
+    pub left: Exactness,
+    pub right: Exactness,
+}
+
+// A drawn step from a to b: its contacts, from a's to b's, on the left and on the right, and which of them are exact.
 pub struct Section {
     pub a: Vertex,
     pub b: Vertex,
     pub left: Edge,
     pub right: Edge,
     pub trend: Trend,
+    pub exact: ExactSides,
 }
 
 // What a step is.

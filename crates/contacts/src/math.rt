@@ -1,4 +1,5 @@
 // What a step's contacts are made of, and what kind of step it is; follows src/mesh/int/variable_stroke/math.rs.
+use crate::Exactness;
 use crate::Kind;
 use crate::Vertex;
 use number::division::mul_div;
@@ -11,13 +12,14 @@ use plane::vectors::from_to;
 use plane::vectors::square;
 use turning::Edge;
 ghost use mathlib.Core.Path.{_≡_};
+ghost use mathlib.Core.Bool.{_&&_};
 ghost use Prim.Native.Nat.{_*_, _^_, _<_, _≤_};
 ghost use lib.IntN.{natAbs, pos, negℤ, _+ℤ_, _-ℤ_, _*ℤ_};
 ghost use Rattle.whole.specs.Sizes.{Size};
-ghost use Rattle.number.specs.MulDiv.{mulDivOf};
+ghost use Rattle.number.specs.MulDiv.{mulDivOf, exactOf};
 ghost use Rattle.plane.specs.Vectors.{squareOf};
 ghost use Rattle.contacts.specs.Bounds.{Inside, Line};
-ghost use Rattle.contacts.specs.Contacts.{centreOf, lineOf, deltaOf, shiftOf, tangentOf, numeratorOf, contactOf, largerOf, kindOf};
+ghost use Rattle.contacts.specs.Contacts.{centreOf, lineOf, deltaOf, shiftOf, tangentOf, numeratorOf, contactOf, contactExact, largerOf, kindOf};
 
 // The point of a vertex.
 pub fn centre(v: Vertex) -> Point
@@ -149,32 +151,69 @@ pub fn tangent_offsets(v: Vector, delta: i64) -> Offsets
     }
 }
 
+// A coordinate of a contact, and whether the division left nothing over.
+pub struct Coordinate {
+    pub to: i64,
+    pub exact: bool,
+}
+
 // x + radius * n / divisor.
-fn moved(x: i64, radius: i64, n: i64, divisor: u64) -> i64
+fn moved(x: i64, radius: i64, n: i64, divisor: u64) -> Coordinate
     requires { ⌜ Size (2 ^ 28) x × Size (2 ^ 28) radius × (natAbs n ≤ divisor) × (0 < divisor) × (divisor < 2 ^ 62) ⌝ }
-    ensures { λ r. ⌜ r ≡ x +ℤ mulDivOf radius n divisor ⌝ }
+    ensures { λ r. ⌜ (r .to ≡ x +ℤ mulDivOf radius n divisor) × (r .exact ≡ exactOf radius n divisor) ⌝ }
 {
-    x + mul_div(radius, n, divisor as i64)
+    let q = mul_div(radius, n, divisor as i64);
+    let to = x + q.value;
+    Coordinate { to, exact: q.exact }
+}
+
+// A contact, and whether it is exact: neither division left anything over.
+pub struct Touch {
+    pub point: Point,
+    pub exact: bool,
+}
+
+// Whether both are true.
+fn both(x: bool, y: bool) -> bool
+    ensures { λ r. ⌜ r ≡ x && y ⌝ }
+{
+    x && y
 }
 
 // The contact of v for the numerator n.
-fn contact(divisor: u64, n: Vector, v: Vertex) -> Point
+fn contact(divisor: u64, n: Vector, v: Vertex) -> Touch
     requires { ⌜ Inside v × (squareOf n ≤ divisor * divisor) × (0 < divisor) × (divisor < 2 ^ 62) ⌝ }
-    ensures { λ r. ⌜ r ≡ contactOf divisor n v ⌝ }
+    ensures { λ r. ⌜ (r .point ≡ contactOf divisor n v) × (r .exact ≡ contactExact divisor n v) ⌝ }
 {
-    Point {
-        x: moved(v.x, v.radius, n.x, divisor),
-        y: moved(v.y, v.radius, n.y, divisor),
+    let x = moved(v.x, v.radius, n.x, divisor);
+    let y = moved(v.y, v.radius, n.y, divisor);
+    let point = Point { x: x.to, y: y.to };
+    Touch {
+        point,
+        exact: both(x.exact, y.exact),
     }
 }
 
+// A side of a section, and which of its ends are exact.
+pub struct Side {
+    pub edge: Edge,
+    pub exact: Exactness,
+}
+
 // The contacts of a and of b for the numerator n.
-pub fn contacts(divisor: u64, n: Vector, a: Vertex, b: Vertex) -> Edge
+pub fn contacts(divisor: u64, n: Vector, a: Vertex, b: Vertex) -> Side
     requires { ⌜ Inside a × Inside b × (squareOf n ≤ divisor * divisor) × (0 < divisor) × (divisor < 2 ^ 62) ⌝ }
-    ensures { λ r. ⌜ (r .a ≡ contactOf divisor n a) × (r .b ≡ contactOf divisor n b) ⌝ }
+    ensures edge { λ r. ⌜ (r .edge .a ≡ contactOf divisor n a) × (r .edge .b ≡ contactOf divisor n b) ⌝ }
+    ensures exact { λ r. ⌜ (r .exact .a ≡ contactExact divisor n a) × (r .exact .b ≡ contactExact divisor n b) ⌝ }
 {
-    Edge {
-        a: contact(divisor, n, a),
-        b: contact(divisor, n, b),
-    }
+    let from = contact(divisor, n, a);
+    let to = contact(divisor, n, b);
+    let start = from.point;
+    let end = to.point;
+    let edge = Edge { a: start, b: end };
+    let exact = Exactness {
+        a: from.exact,
+        b: to.exact,
+    };
+    Side { edge, exact }
 }

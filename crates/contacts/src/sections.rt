@@ -1,4 +1,5 @@
 // Sections, and whether a section's quadrilateral covers a circle; follows src/mesh/int/variable_stroke/section.rs.
+use crate::ExactSides;
 use crate::Last;
 use crate::Section;
 use crate::Trend;
@@ -43,15 +44,26 @@ pub fn section(a: Vertex, b: Vertex) -> Section
     ensures { λ r. ⌜ r ≡ sectionOf a b ⌝ }
 {
     let offsets = tangent_offsets(line(a, b), delta(a, b));
-    let left = offsets.left;
-    let right = offsets.right;
     let divisor = offsets.divisor;
+    let left_numerator = offsets.left;
+    let right_numerator = offsets.right;
+    let left_side = contacts(divisor, left_numerator, a, b);
+    let right_side = contacts(divisor, right_numerator, a, b);
+    let left = left_side.edge;
+    let right = right_side.edge;
+    let left_exact = left_side.exact;
+    let right_exact = right_side.exact;
+    let exact = ExactSides {
+        left: left_exact,
+        right: right_exact,
+    };
     Section {
         a,
         b,
-        left: contacts(divisor, left, a, b),
-        right: contacts(divisor, right, a, b),
+        left,
+        right,
         trend: trend(a, b),
+        exact,
     }
 }
 

@@ -31,7 +31,7 @@ use Rattle.editing.proofs.KnownStore.{known}
 use Rattle.editing.proofs.NewVertex.{known-few}
 use Rattle.reasons.specs.Reasons.{whysOf}
 use Rattle.reasons.specs.Lists.{whyNumbers, unnamed, explanationOf}
-use Rattle.reasons.proofs.Listed.{whys-three}
+use Rattle.reasons.proofs.Listed.{whys-five}
 use Rattle.reasons.specs.declared.Why.{Why}
 use Rattle.reasons.specs.declared.Explanation.{Explanation}
 use Rattle.reasons.specs.declared.Explanation.the-variants as explanation
@@ -90,24 +90,24 @@ module _ {vs : List Why} (ws : List Why) (k : ℕ) (same : vs ≡ ws) {x : Expla
 
 -- ---- the row of the room
 
-module _ {vs : List Why} (ws : List Why) (out : List ℕ) (same : vs ≡ ws) {n : ℕ} (e : n ≡ 3 * length vs) where
-  pub lists-short : length out < n → ListsIn ws out (listed.Refused (NoRoom (n / 3))) out
+module _ {vs : List Why} (ws : List Why) (out : List ℕ) (same : vs ≡ ws) {n : ℕ} (e : n ≡ 5 * length vs) where
+  pub lists-short : length out < n → ListsIn ws out (listed.Refused (NoRoom (n / 5))) out
   unfolding replyOfListed refusalOf
   lists-short h =
       let s : length vs ≡ length ws = ap length same in
-      let t : n / 3 ≡ length ws = omega (arith, e, s) in
-      let f : (5, n / 3) ≡ firstRow (roomRow (3 * length ws) (length out) (length ws) ∷ []) (0, length ws) = ap (λ (k : ℕ). (5, k)) t ∙ sym (room-short (3 * length ws) (length out) (length ws) (0, length ws) (omega (arith, e, s, h))) in
-      record { reply = f; out = refused-written (NoRoom (n / 3)) (spread whyNumbers ws) out f }
+      let t : n / 5 ≡ length ws = omega (arith, e, s) in
+      let f : (5, n / 5) ≡ firstRow (roomRow (5 * length ws) (length out) (length ws) ∷ []) (0, length ws) = ap (λ (k : ℕ). (5, k)) t ∙ sym (room-short (5 * length ws) (length out) (length ws) (0, length ws) (omega (arith, e, s, h))) in
+      record { reply = f; out = refused-written (NoRoom (n / 5)) (spread whyNumbers ws) out f }
 
-  pub lists-done : {m : ℕ} {out₁ : List ℕ} → n ≤ length out → m ≡ 3 * length vs → out₁ ≡ over put out 0 (drop 0 (spread whyNumbers vs)) → ListsIn ws out (listed.Edges (m / 3)) out₁
+  pub lists-done : {m : ℕ} {out₁ : List ℕ} → n ≤ length out → m ≡ 5 * length vs → out₁ ≡ over put out 0 (drop 0 (spread whyNumbers vs)) → ListsIn ws out (listed.Edges (m / 5)) out₁
   unfolding replyOfListed
   lists-done {m} h em eo =
       let s : length vs ≡ length ws = ap length same in
-      let t : m / 3 ≡ length ws = omega (arith, em, s) in
-      let f : (0, m / 3) ≡ firstRow (roomRow (3 * length ws) (length out) (length ws) ∷ []) (0, length ws) = ap (λ (k : ℕ). (0, k)) t ∙ sym (room-enough (3 * length ws) (length out) (length ws) (0, length ws) (omega (arith, e, s, h))) in
+      let t : m / 5 ≡ length ws = omega (arith, em, s) in
+      let f : (0, m / 5) ≡ firstRow (roomRow (5 * length ws) (length out) (length ws) ∷ []) (0, length ws) = ap (λ (k : ℕ). (0, k)) t ∙ sym (room-enough (5 * length ws) (length out) (length ws) (0, length ws) (omega (arith, e, s, h))) in
       record {
         reply = f;
-        out = eo ∙ ap (λ (us : List Why). over put out 0 (spread whyNumbers us)) same ∙ over-whole out (spread whyNumbers ws) (omega (arith, e, s, h, whys-three ws)) ∙ done-written (m / 3) (spread whyNumbers ws) out f;
+        out = eo ∙ ap (λ (us : List Why). over put out 0 (spread whyNumbers us)) same ∙ over-whole out (spread whyNumbers ws) (omega (arith, e, s, h, whys-five ws)) ∙ done-written (m / 5) (spread whyNumbers ws) out f;
       }
 
 -- ---- the path at the front of the numbers p: e is what the code has for how many numbers that is
@@ -183,5 +183,5 @@ module _ {s : List ℕ} {p : List ℤ} {h : Header} (a : Passed s p h) where
     unfolding listReply listOut
     lists-passed {r} {out} {out₁} q =
         let f : ListsIn (whysIn s) out r out₁ = rw whys-shown at q in
-        let g : listReply s (length out) ≡ firstRow (roomRow (3 * length (whysIn s)) (length out) (length (whysIn s)) ∷ []) (0, length (whysIn s)) = store-passes _ _ (a .sound) ∙ stroke-passes (a .sound .head) _ _ e in
+        let g : listReply s (length out) ≡ firstRow (roomRow (5 * length (whysIn s)) (length out) (length (whysIn s)) ∷ []) (0, length (whysIn s)) = store-passes _ _ (a .sound) ∙ stroke-passes (a .sound .head) _ _ e in
         record { reply = f .reply ∙ sym g; out = f .out ∙ ap (λ (t : Reply). written t (spread whyNumbers (whysIn s)) out) (sym g) }

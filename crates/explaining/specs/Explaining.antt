@@ -1,4 +1,4 @@
--- Document 02, request 1: explain and list, their answers and their promises.
+-- Document 02, requests 1 and 7: explain and list, their answers and their promises.
 use mathlib.Core.Path.{_≡_}
 use mathlib.Core.Bool.{true, false}
 use mathlib.Core.List.{List, [], _∷_, _++_}
@@ -23,7 +23,7 @@ use Rattle.explaining.specs.declared.Listed.the-variants as listed
 unfoldable pub whysIn : List ℕ → List Why
 whysIn s = whysOf (gradeIn s) (pathIn s)
 
--- ---- explain one edge, beside the reply its reason, vertex and place (all 0 when refused)
+-- ---- explain one edge, beside the reply its reason, vertex and place, and of a side its exactness (all 0 when refused)
 
 -- 10, no such edge: the edge number.
 unfoldable pub edgeRow : ℕ → ℕ → Row
@@ -56,13 +56,13 @@ pub record ExplainsIn (ws : List Why) (k : ℕ) (answer : Explained) : Type 0 wh
   pub reply : replyOfExplained answer ≡ firstRow (edgeRow (length ws) k ∷ []) (0, k)
   pub why : whyOfExplained answer ≡ (elim (leb (length ws) k) [ true ↦ unnamed | false ↦ getD ws k unnamed ])
 
--- ---- list every edge into lent numbers, three an edge
+-- ---- list every edge into lent numbers, five an edge
 
 -- The rows of the store, 12 of the kind, 5 of the room with the edges that there are; else 0 with them.
 unfoldable pub listReply : List ℕ → ℕ → Reply
 listReply s room =
     let m = length (whysIn s) in
-    firstRow (storeRows s ++ (otherKindRow s ∷ roomRow (3 * m) room m ∷ [])) (0, m)
+    firstRow (storeRows s ++ (otherKindRow s ∷ roomRow (5 * m) room m ∷ [])) (0, m)
 
 unfoldable pub listOut : List ℕ → List ℕ → List ℕ
 listOut s room = written (listReply s (length room)) (spread whyNumbers (whysIn s)) room
@@ -80,5 +80,5 @@ OneListing = (s out : List ℕ) (r q : Listed) (o p : List ℕ) → Lists s out 
 
 -- the same of a path whose store passed its rows and is of a stroke
 pub record ListsIn (ws : List Why) (out₀ : List ℕ) (answer : Listed) (out₁ : List ℕ) : Type 0 where
-  pub reply : replyOfListed answer ≡ firstRow (roomRow (3 * length ws) (length out₀) (length ws) ∷ []) (0, length ws)
-  pub out : out₁ ≡ written (firstRow (roomRow (3 * length ws) (length out₀) (length ws) ∷ []) (0, length ws)) (spread whyNumbers ws) out₀
+  pub reply : replyOfListed answer ≡ firstRow (roomRow (5 * length ws) (length out₀) (length ws) ∷ []) (0, length ws)
+  pub out : out₁ ≡ written (firstRow (roomRow (5 * length ws) (length out₀) (length ws) ∷ []) (0, length ws)) (spread whyNumbers ws) out₀

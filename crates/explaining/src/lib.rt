@@ -1,4 +1,4 @@
-// explain and list: why an edge of a kept outline is there, and why each of them is; document 02, request 1.
+// explain and list: why an edge of a kept outline is there, and why each of them is; document 02, request 1, and of sides request 7.
 use checking::check;
 use heading::Checked;
 use heading::Header;
@@ -31,7 +31,7 @@ pub enum Listed {
 
 // The row of the edge, over the path of n vertices at the front of `path`.
 fn explain_in(path: &[i32], n: usize, grade: u32, edge: usize, one: &mut [usize]) -> Explained
-    requires { ⌜ (3 * n ≤ length (now path)) × (n ≡ length (pathOf (take (3 * n) (now path)))) × Within grade (pathOf (take (3 * n) (now path))) × (length (now one) ≡ 3) ⌝ }
+    requires { ⌜ (3 * n ≤ length (now path)) × (n ≡ length (pathOf (take (3 * n) (now path)))) × Within grade (pathOf (take (3 * n) (now path))) × (length (now one) ≡ 5) ⌝ }
     ensures { λ r. ⌜ ExplainsIn (whysOf grade (pathOf (take (3 * n) (now (path .entry))))) edge r ⌝ }
 {
     let numbers = 3 * n;
@@ -50,7 +50,7 @@ fn explain_stroke(
     edge: usize,
     one: &mut [usize],
 ) -> Explained
-    requires { ⌜ Passed (now store) (now path) h × (length (now one) ≡ 3) ⌝ }
+    requires { ⌜ Passed (now store) (now path) h × (length (now one) ≡ 5) ⌝ }
     ensures { λ r. ⌜ Explains (now (store .entry)) edge r ⌝ }
 {
     let form = h.form;
@@ -60,7 +60,7 @@ fn explain_stroke(
     }
 }
 
-// Why an edge of a store is there; `path`, `own` and `one` are room to check it in and for its three numbers.
+// Why an edge of a store is there; `path`, `own` and `one` are room to check it in and for its five numbers.
 pub fn explain_with(
     store: &[u8],
     edge: usize,
@@ -68,7 +68,7 @@ pub fn explain_with(
     own: &mut [i32],
     one: &mut [usize],
 ) -> Explained
-    requires { ⌜ (12288 ≤ length (now path)) × (36908 ≤ length (now own)) × (length (now one) ≡ 3) ⌝ }
+    requires { ⌜ (12288 ≤ length (now path)) × (36908 ≤ length (now own)) × (length (now one) ≡ 5) ⌝ }
     ensures { λ r. ⌜ Explains (now (store .entry)) edge r ⌝ }
 {
     let checked = check(store, path, own);
@@ -87,10 +87,10 @@ fn list_in(path: &[i32], n: usize, grade: u32, out: &mut [usize]) -> Listed
     let mut nowhere = [0usize; 0];
     let numbers = list_path(&path[0..end], n, grade, 0, &mut nowhere);
     if out.len() < numbers {
-        return Listed::Refused(Refusal::NoRoom(numbers / 3));
+        return Listed::Refused(Refusal::NoRoom(numbers / 5));
     }
     let done = list_path(&path[0..end], n, grade, 0, out);
-    Listed::Edges(done / 3)
+    Listed::Edges(done / 5)
 }
 
 // The same of a store that passed its rows, its vertices at the front of `path`, if it is of a stroke.
@@ -105,7 +105,7 @@ fn list_stroke(store: &[u8], path: &[i32], h: Header, out: &mut [usize]) -> List
     }
 }
 
-// Why each edge of a store is there, three numbers an edge, into lent numbers; `path` and `own` are room to check it in.
+// Why each edge of a store is there, five numbers an edge, into lent numbers; `path` and `own` are room to check it in.
 pub fn list_with(store: &[u8], out: &mut [usize], path: &mut [i32], own: &mut [i32]) -> Listed
     requires { ⌜ (12288 ≤ length (now path)) × (36908 ≤ length (now own)) ⌝ }
     ensures { λ r. ⌜ Lists (now (store .entry)) (now (out .entry)) r (now (out .exit)) ⌝ }
@@ -123,11 +123,11 @@ pub fn explain(store: &[u8], edge: usize) -> Explained
 {
     let mut path = [0i32; 12288];
     let mut own = [0i32; 36908];
-    let mut one = [0usize; 3];
+    let mut one = [0usize; 5];
     explain_with(store, edge, &mut path, &mut own, &mut one)
 }
 
-// Lists why each edge of a sound outline is there into lent numbers, three an edge.
+// Lists why each edge of a sound outline is there into lent numbers, five an edge.
 pub fn list(store: &[u8], out: &mut [usize]) -> Listed
     ensures { λ r. ⌜ Lists (now (store .entry)) (now (out .entry)) r (now (out .exit)) ⌝ }
 {

@@ -1,5 +1,5 @@
 // Prints why each edge of the store on standard input is there, one line an edge: its number, the reason, the vertex whose body holds it and its place
-// under that rule; document 02, request 1.
+// under that rule, and of a side whether its start and its end are exact or rounded; document 02, requests 1 and 7.
 mod print;
 
 use explaining::Listed;
@@ -33,7 +33,7 @@ fn print_store(
 fn main() {
     let mut store = [0u8; 61441];
     let mut page = [0u8; 4096];
-    let mut list = [0usize; 11520];
+    let mut list = [0usize; 19200];
     let mut path = [0i32; 12288];
     let mut own = [0i32; 36908];
     let count = io::read_full(STDIN_FILENO, &mut store);

@@ -29,6 +29,24 @@ fn reason(page: &mut [u8; 4096], fill: usize, number: usize) -> usize {
     page::text(page, fill, b"circle")
 }
 
+// Whether one end of a side is exact.
+fn end(page: &mut [u8; 4096], fill: usize, exact: usize) -> usize {
+    let filled = page::space(page, fill);
+    if exact == 1 {
+        return page::text(page, filled, b"exact");
+    }
+    page::text(page, filled, b"rounded")
+}
+
+// Whether the ends of a side are exact, its start first; nothing of another edge.
+fn ends(page: &mut [u8; 4096], fill: usize, number: usize, start: usize, last: usize) -> usize {
+    if number <= 1 {
+        let filled = end(page, fill, start);
+        return end(page, filled, last);
+    }
+    fill
+}
+
 // One edge's line.
 fn edge_line(
     page: &mut [u8; 4096],
@@ -37,6 +55,8 @@ fn edge_line(
     number: usize,
     vertex: usize,
     place: usize,
+    start: usize,
+    last: usize,
 ) -> usize {
     let mut filled = page::unsigned(page, fill, edge as u64);
     filled = page::space(page, filled);
@@ -45,6 +65,7 @@ fn edge_line(
     filled = page::unsigned(page, filled, vertex as u64);
     filled = page::space(page, filled);
     filled = page::unsigned(page, filled, place as u64);
+    filled = ends(page, filled, number, start, last);
     page::line_end(page, filled)
 }
 
@@ -52,12 +73,21 @@ fn edge_line(
 pub fn edges(page: &mut [u8; 4096], list: &[usize], m: usize) -> usize {
     let mut fill: usize = 0;
     let mut edge: usize = 0;
-    while edge < list.len() / 3 {
+    while edge < list.len() / 5 {
         if m <= edge {
             return fill;
         }
-        let at = 3 * edge;
-        fill = edge_line(page, fill, edge, list[at], list[at + 1], list[at + 2]);
+        let at = 5 * edge;
+        fill = edge_line(
+            page,
+            fill,
+            edge,
+            list[at],
+            list[at + 1],
+            list[at + 2],
+            list[at + 3],
+            list[at + 4],
+        );
         edge += 1;
     }
     fill

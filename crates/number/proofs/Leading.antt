@@ -1,10 +1,13 @@
 -- A product over a divisor by the leading parts of both: den is d * p + dl and num is n * p + nl. Assumes nothing.
 use mathlib.Core.Path.{_≡_, refl, sym, ap, _∙_}
 use mathlib.Core.Logic.{_⊎_, inl, inr}
-use Prim.Native.Nat.{ℕ, zero, suc, _+_, _*_, _/_, _%_, _^_, _≤_, _<_}
-use native.Mathlib.Nat.{mul-add, add-mul, mul-assoc, mul-zero, mul-le-mul, mul-le-mul-right, lt-of-mul-lt-mul-right, div-le-of-le-mul, div-add-mod', mod-lt, le-of-lt}
+use Prim.Native.Nat.{ℕ, zero, suc, _+_, _*_, _-_, _/_, _%_, _^_, _≤_, _<_}
+use native.Mathlib.Nat.{mul-add, add-mul, mul-assoc, mul-zero, mul-le-mul, mul-le-mul-right, lt-of-mul-lt-mul-right, div-le-of-le-mul, div-add-mod', mod-lt, le-of-lt, mod-eq-of-lt, add-mul-mod-self-right}
 use native.Mathlib.Omega.{arith}
-use Rattle.number.specs.MulDiv.{nearestOf}
+use lib.Dec.{eqb, ltb}
+use borrow.Author.Tests.{eq-eqb, ne-eqb, eqb-true, eqb-false, ltb-true, ltb-false}
+use mathlib.Core.Bool.{Bool, true, false}
+use Rattle.number.specs.MulDiv.{nearestOf, noneLeft}
 use Rattle.number.proofs.Nearest.{nearest-is}
 
 -- what is spared of a factor counts little
@@ -85,3 +88,49 @@ module _ (r num den p n nl d dl : ℕ) (k : Led r num den p n nl d dl) (p-some :
 
   pub same : 2 * (r * n % d * p + r * nl) < den + 2 * (r * n / d * dl) → r * n / d ≡ nearestOf (r * num) den
   same h = nearest-is (r * num) den (r * n / d) (omega (arith, k)) (omega (arith, k))
+
+-- ---- whether anything is left over
+
+-- s is what k times the divisor leave of x
+left-over : (x k s den : ℕ) → x ≡ s + k * den → s < den → x % den ≡ s
+left-over x k s den e h = ap (λ (n : ℕ). n % den) e ∙ add-mul-mod-self-right s k den ∙ mod-eq-of-lt h
+
+none-is : (x k s den : ℕ) {t : Bool} → x ≡ s + k * den → s < den → eqb s 0 ≡ t → t ≡ noneLeft x den
+unfolding noneLeft
+none-is x k s den e h f = sym f ∙ sym (ap (λ (n : ℕ). eqb n 0) (left-over x k s den e h))
+
+module _ (r num den p n nl d dl : ℕ) (k : Led r num den p n nl d dl) (some : 0 < den) where
+  a : ℕ
+  a = r * n % d * p + r * nl
+
+  b : ℕ
+  b = r * n / d * dl
+
+  -- rounded up: what is left is a less b, or that less the divisor
+  pub up-exact : den + 2 * (r * n / d * dl) ≤ 2 * (r * n % d * p + r * nl) → eqb (r * n % d * p + r * nl) (den + r * n / d * dl) ≡ noneLeft (r * num) den
+  unfolding a b
+  up-exact h = go (eqb a (den + b)) refl
+    where
+      more : (x : Bool) → ltb a (den + b) ≡ x → (a ≡ den + b → ⊥) → false ≡ noneLeft (r * num) den
+      more true e f = let l = ltb-true a (den + b) e in none-is (r * num) (r * n / d) (a - b) den (omega (arith, k)) (omega (arith, k)) (ne-eqb (a - b) 0 (λ z. omega arith))
+      more false e f = let l = ltb-false a (den + b) e in none-is (r * num) (r * n / d + 1) (a - (den + b)) den (omega (arith, k, one-more (r * n / d) den)) (omega (arith, k)) (ne-eqb (a - (den + b)) 0 (λ z. f (omega arith)))
+
+      go : (x : Bool) → eqb a (den + b) ≡ x → x ≡ noneLeft (r * num) den
+      go true e = let f = eqb-true a (den + b) e in none-is (r * num) (r * n / d + 1) 0 den (omega (arith, k, one-more (r * n / d) den)) some (eq-eqb 0 0 refl)
+      go false e = more (ltb a (den + b)) refl (eqb-false a (den + b) e)
+
+  pub same-exact : 2 * (r * n % d * p + r * nl) < den + 2 * (r * n / d * dl) → eqb (r * n % d * p + r * nl) (r * n / d * dl) ≡ noneLeft (r * num) den
+  unfolding a b
+  same-exact h = go (eqb a b) refl
+    where
+      less : (q : ℕ) → r * n / d ≡ q → a < b → false ≡ noneLeft (r * num) den
+      less zero e l = absurd (omega (arith, ap (λ (x : ℕ). x * dl) e))
+      less (suc q) e l = none-is (r * num) q (den + a - b) den (omega (arith, k, ap (λ (x : ℕ). x * den) e, one-more q den)) (omega (arith, k)) (ne-eqb (den + a - b) 0 (λ z. omega (arith, k)))
+
+      more : (x : Bool) → ltb a b ≡ x → (a ≡ b → ⊥) → false ≡ noneLeft (r * num) den
+      more true e f = less (r * n / d) refl (ltb-true a b e)
+      more false e f = let l = ltb-false a b e in none-is (r * num) (r * n / d) (a - b) den (omega (arith, k)) (omega (arith, k)) (ne-eqb (a - b) 0 (λ z. f (omega arith)))
+
+      go : (x : Bool) → eqb a b ≡ x → x ≡ noneLeft (r * num) den
+      go true e = let f = eqb-true a b e in none-is (r * num) (r * n / d) 0 den (omega (arith, k)) some (eq-eqb 0 0 refl)
+      go false e = more (ltb a b) refl (eqb-false a b e)

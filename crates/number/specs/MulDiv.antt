@@ -1,7 +1,8 @@
--- Document 01, "Numbers underneath": `mul_div`.
+-- Document 01, "Numbers underneath": `mul_div`. Document 02, request 7: whether it is exact.
 use mathlib.Core.Bool.{Bool, true, false}
-use Prim.Native.Nat.{ℕ, suc, _+_, _*_, _/_}
-use lib.IntN.{ℤ, pos, negsuc, negℤ, _*ℤ_}
+use Prim.Native.Nat.{ℕ, suc, _+_, _*_, _/_, _%_}
+use lib.Dec.{eqb}
+use lib.IntN.{ℤ, pos, negsuc, negℤ, natAbs, _*ℤ_}
 
 -- n, or minus n
 abbrev pub withSign : Bool → ℕ → ℤ
@@ -20,3 +21,11 @@ roundedOf (negsuc n) d = negℤ (pos (nearestOf (suc n) d))
 -- The product over the divisor.
 unfoldable pub mulDivOf : ℤ → ℤ → ℕ → ℤ
 mulDivOf a b d = roundedOf (a *ℤ b) d
+
+-- Document 02, request 7: whether a division leaves nothing over,
+unfoldable pub noneLeft : ℕ → ℕ → Bool
+noneLeft n d = eqb (n % d) 0
+
+-- and whether that of a product does: its sign leaves what is left over as it is.
+unfoldable pub exactOf : ℤ → ℤ → ℕ → Bool
+exactOf a b d = noneLeft (natAbs a * natAbs b) d

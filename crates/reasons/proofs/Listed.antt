@@ -13,8 +13,9 @@ use lib.Seq.{set-out, length-sets}
 use Rattle.runs.specs.Runs.{spread, over, Runs, Room, put}
 use Rattle.runs.proofs.Laws.{spread-length}
 use Rattle.runs.proofs.Written.{over-sets}
-use Rattle.reasons.specs.Reasons.{placesFrom, reasonNumber}
-use Rattle.reasons.specs.Lists.{whyNumbers, putPast}
+use Rattle.reasons.specs.Reasons.{placesFrom, reasonNumber, exactnessOf}
+use Rattle.reasons.specs.Lists.{exactNumber, whyNumbers, putPast}
+use Rattle.contacts.specs.declared.Exactness.{Exactness}
 use Rattle.reasons.specs.declared.Reason.{Reason}
 use Rattle.reasons.specs.declared.Why.{Why}
 
@@ -65,16 +66,19 @@ past-length {g = g} from {l₀} {a₀ = a₀} {es = es} p = ap length (p .out) �
 
 -- ---- one edge
 
-pub whys-three : (ws : List Why) → length (spread whyNumbers ws) ≡ length ws * 3
+pub whys-five : (ws : List Why) → length (spread whyNumbers ws) ≡ length ws * 5
 unfolding whyNumbers
-whys-three ws = spread-length whyNumbers 3 (λ w. refl) ws
+whys-five ws = spread-length whyNumbers 5 (λ w. refl) ws
 
-pub why-put : (from : ℕ) {l₀ l₁ l₂ l₃ : List ℕ} {at n : ℕ} (w : Why) → n ≡ reasonNumber (w .reason) → l₁ ≡ putPast from l₀ at n → l₂ ≡ putPast from l₁ (at + 1) (w .vertex) → l₃ ≡ putPast from l₂ (at + 2) (w .place)
-    → Runs (putPast from) whyNumbers l₀ at (w ∷ []) l₃ (at + 3)
+pub why-put : (from : ℕ) {l₀ l₁ l₂ l₃ l₄ l₅ : List ℕ} {at n s z : ℕ} {x : Exactness} (w : Why) → n ≡ reasonNumber (w .reason) → l₁ ≡ putPast from l₀ at n → l₂ ≡ putPast from l₁ (at + 1) (w .vertex) → l₃ ≡ putPast from l₂ (at + 2) (w .place)
+    → x ≡ exactnessOf (w .reason) → s ≡ exactNumber (x .a) → l₄ ≡ putPast from l₃ (at + 3) s → z ≡ exactNumber (x .b) → l₅ ≡ putPast from l₄ (at + 4) z
+    → Runs (putPast from) whyNumbers l₀ at (w ∷ []) l₅ (at + 5)
 unfolding spread over whyNumbers
-why-put from {l₀} {l₁} {l₂} {l₃} {at} {n} w e p q r =
-    let f : at + 2 ≡ suc (suc at) = omega arith in
-    record { out = rw (r, q, p, e, f, add-one at); pos = refl }
+why-put from {at = at} w e p q r x es ps ez pz =
+    let f₂ : at + 2 ≡ suc (suc at) = omega arith in
+    let f₃ : at + 3 ≡ suc (suc (suc at)) = omega arith in
+    let f₄ : at + 4 ≡ suc (suc (suc (suc at))) = omega arith in
+    record { out = rw (pz, ez, ps, es, x, r, q, p, e, f₂, f₃, f₄, add-one at); pos = refl }
 
 -- ---- the places of one rule
 
@@ -95,11 +99,11 @@ module _ (r : Reason) (v : ℕ) where
   places-length p zero = refl
   places-length p (suc n) = ap suc (places-length (suc p) n)
 
-  pub places-size : (p n : ℕ) → length (spread whyNumbers (placesFrom r v p n)) ≡ 3 * n
-  places-size p n = omega (arith, whys-three (placesFrom r v p n), places-length p n)
+  pub places-size : (p n : ℕ) → length (spread whyNumbers (placesFrom r v p n)) ≡ 5 * n
+  places-size p n = omega (arith, whys-five (placesFrom r v p n), places-length p n)
 
   -- room for all of them
-  pub places-room : {at : ℕ} (n : ℕ) → Room whyNumbers at (placesFrom r v 0 n) → at + 3 * n < 2 ^ 64
+  pub places-room : {at : ℕ} (n : ℕ) → Room whyNumbers at (placesFrom r v 0 n) → at + 5 * n < 2 ^ 64
   places-room n h = omega (arith, h .fits, places-size 0 n)
 
   pub places-all : (n : ℕ) → placesFrom r v 0 n ≡ placesFrom r v 0 (n - 0)

@@ -14,6 +14,7 @@ use Rattle.turning.specs.Edges.{edgeOf}
 use Rattle.contacts.specs.Contacts.{kindOf, sectionOf}
 use Rattle.contacts.specs.Covering.{coveredOf}
 use Rattle.contacts.specs.declared.Vertex.{Vertex}
+use Rattle.contacts.specs.declared.Exactness.{Exactness}
 use Rattle.contacts.specs.declared.Section.{Section}
 use Rattle.contacts.specs.declared.Kind.the-variants.{Broken, Drawn, Thin}
 use Rattle.contacts.specs.declared.Last.{Last}
@@ -26,7 +27,7 @@ use Rattle.variable_stroke.specs.declared.Chain.{Chain}
 use Rattle.variable_stroke.specs.declared.Walk.{Walk}
 use Rattle.variable_stroke.proofs.ChainSteps.{emitted-broken}
 use Rattle.paths.specs.Paths.{none}
-use Rattle.reasons.specs.Reasons.{finishPieces, joinPieces, meetPieces, drawnPieces, leavePieces, piecesOf, piecesFrom, piecesAt, placesFrom, pieceWhys, bodyWhys, whysFrom}
+use Rattle.reasons.specs.Reasons.{finishPieces, joinPieces, meetPieces, backward, drawnPieces, leavePieces, piecesOf, piecesFrom, piecesAt, placesFrom, pieceWhys, bodyWhys, whysFrom}
 use Rattle.reasons.specs.Lists.{endReason}
 use Rattle.reasons.specs.declared.Reason.{Reason}
 use Rattle.reasons.specs.declared.Reason.the-variants.{LeftSide, RightSide, StartCap, LeftJoin, RightJoin, Gap}
@@ -58,10 +59,10 @@ module _ (v : ℕ) (t : Vector) where
   unfolding bodyWhys spread pieceWhys meetPieces
   meet-whys-none l k s e f = rw (e, f) (append-nil _)
 
-  pub drawn-whys : (c : Chain) (s : Section) {n m : ℕ} → n ≡ length (edgeOf (s .left .b) (s .left .a)) → m ≡ length (edgeOf (s .right .a) (s .right .b))
-      → bodyWhys v (drawnPieces t c s) ≡ placesFrom LeftSide v 0 n ++ (placesFrom RightSide v 0 m ++ bodyWhys v (meetPieces t (c .last) (c .cap) s))
+  pub drawn-whys : (c : Chain) (s : Section) {n m : ℕ} {x : Exactness} → x ≡ backward (s .exact .left) → n ≡ length (edgeOf (s .left .b) (s .left .a)) → m ≡ length (edgeOf (s .right .a) (s .right .b))
+      → bodyWhys v (drawnPieces t c s) ≡ placesFrom (LeftSide x) v 0 n ++ (placesFrom (RightSide (s .exact .right)) v 0 m ++ bodyWhys v (meetPieces t (c .last) (c .cap) s))
   unfolding bodyWhys spread pieceWhys drawnPieces
-  drawn-whys c s e f = rw (e, f)
+  drawn-whys c s x e f = rw (x, e, f)
 
   module _ (w : Walk) (b : Vertex) {x : Bool} (e : x ≡ coveredOf (w .previous) b) where
     pub leave-whys-yes : x ≡ true → bodyWhys v (leavePieces t w b) ≡ bodyWhys v (finishPieces t (w .chain .last) (w .chain) Round)

@@ -1,10 +1,11 @@
--- Reasons in lent numbers, three an edge: the reason's number, the vertex and the place.
-use mathlib.Core.Bool.{true, false}
+-- Reasons in lent numbers, five an edge: the reason's number, the vertex, the place, and whether its start and its end are exact (1 or 0).
+use mathlib.Core.Bool.{Bool, true, false}
 use mathlib.Core.List.{List, [], _∷_}
 use Prim.Native.Nat.{ℕ, _-_}
 use lib.Dec.{eqb, ltb}
 use lib.ListN.{length, getD, set}
-use Rattle.reasons.specs.Reasons.{reasonNumber}
+use Rattle.reasons.specs.Reasons.{reasonNumber, notExact, exactnessOf}
+use Rattle.contacts.specs.declared.Exactness.{Exactness}
 use Rattle.contacts.specs.declared.Last.{Last}
 use Rattle.contacts.specs.declared.Last.the-variants.{Nothing, Held}
 use Rattle.reasons.specs.declared.Reason.{Reason}
@@ -13,8 +14,15 @@ use Rattle.reasons.specs.declared.Why.{Why}
 use Rattle.reasons.specs.declared.Explanation.{Explanation}
 use Rattle.reasons.specs.declared.Explanation.the-variants.{Edge, NoEdge}
 
+-- an exact end is 1, any other 0
+unfoldable pub exactNumber : Bool → ℕ
+exactNumber true = 1
+exactNumber false = 0
+
 unfoldable pub whyNumbers : Why → List ℕ
-whyNumbers w = reasonNumber (w .reason) ∷ w .vertex ∷ w .place ∷ []
+whyNumbers w =
+    let e = exactnessOf (w .reason) in
+    reasonNumber (w .reason) ∷ w .vertex ∷ w .place ∷ exactNumber (e .a) ∷ exactNumber (e .b) ∷ []
 
 -- One number into lent room that begins with the number at `from`: what stands before that is passed over, and so is what stands past the room.
 unfoldable pub putPast : ℕ → List ℕ → ℕ → ℕ → List ℕ
@@ -27,12 +35,12 @@ endReason Nothing = Circle
 
 -- ---- one edge of a list
 
--- the reason that has a number
-unfoldable pub reasonOf : ℕ → Reason
-reasonOf n = elim (eqb n 0) [
-  | true ↦ LeftSide
+-- the reason that has a number; a side has this exactness
+unfoldable pub reasonOf : ℕ → Exactness → Reason
+reasonOf n e = elim (eqb n 0) [
+  | true ↦ LeftSide e
   | false ↦ elim (eqb n 1) [
-    | true ↦ RightSide
+    | true ↦ RightSide e
     | false ↦ elim (eqb n 2) [
       | true ↦ StartCap
       | false ↦ elim (eqb n 3) [
@@ -45,7 +53,7 @@ reasonOf n = elim (eqb n 0) [
 
 -- all 0, where no edge is named
 abbrev pub unnamed : Why
-unnamed = record { reason = LeftSide; vertex = 0; place = 0 }
+unnamed = record { reason = LeftSide notExact; vertex = 0; place = 0 }
 
 -- why the edge k is there, if there is one
 unfoldable pub explanationOf : List Why → ℕ → Explanation

@@ -1,4 +1,4 @@
--- Document 02, request 1, "Why is this edge here?": the edges of each body by the rule that emits them.
+-- Document 02, request 1, "Why is this edge here?": the edges of each body by the rule that emits them; request 7: whether the ends of sides are exact.
 use mathlib.Core.Path.{_≡_}
 use mathlib.Core.Bool.{true, false}
 use mathlib.Core.List.{List, [], _∷_, _++_}
@@ -13,6 +13,7 @@ use Rattle.turning.specs.declared.Edge.{Edge}
 use Rattle.contacts.specs.Contacts.{kindOf, sectionOf}
 use Rattle.contacts.specs.Covering.{coveredOf}
 use Rattle.contacts.specs.declared.Vertex.{Vertex}
+use Rattle.contacts.specs.declared.Exactness.{Exactness}
 use Rattle.contacts.specs.declared.Section.{Section}
 use Rattle.contacts.specs.declared.Kind.the-variants.{Broken, Drawn, Thin}
 use Rattle.contacts.specs.declared.Last.{Last}
@@ -50,11 +51,15 @@ unfoldable pub meetPieces : Vector → Last → Cap → Section → List Piece
 meetPieces t (Held prev) k s = joinPieces t prev s
 meetPieces t Nothing k s = record { reason = StartCap; edges = startCap t s k } ∷ []
 
--- Drawn: both sides of the section, then the join or the start cap.
+-- the exactness of an edge that runs from b to a
+unfoldable pub backward : Exactness → Exactness
+backward e = record { a = e .b; b = e .a }
+
+-- Drawn: both sides of the section, each with its exactness as the edge runs, then the join or the start cap.
 unfoldable pub drawnPieces : Vector → Chain → Section → List Piece
 drawnPieces t c s =
-    record { reason = LeftSide; edges = edgeOf (s .left .b) (s .left .a) }
-    ∷ record { reason = RightSide; edges = edgeOf (s .right .a) (s .right .b) }
+    record { reason = LeftSide (backward (s .exact .left)); edges = edgeOf (s .left .b) (s .left .a) }
+    ∷ record { reason = RightSide (s .exact .right); edges = edgeOf (s .right .a) (s .right .b) }
     ∷ meetPieces t (c .last) (c .cap) s
 
 -- Covered: finish Round.
@@ -113,14 +118,28 @@ whysOf g vs = whysFrom 0 (pathPieces g vs)
 
 -- The reasons are numbered from 0 in the request's order.
 unfoldable pub reasonNumber : Reason → ℕ
-reasonNumber LeftSide = 0
-reasonNumber RightSide = 1
+reasonNumber (LeftSide e) = 0
+reasonNumber (RightSide e) = 1
 reasonNumber StartCap = 2
 reasonNumber EndCap = 3
 reasonNumber LeftJoin = 4
 reasonNumber RightJoin = 5
 reasonNumber Gap = 6
 reasonNumber Circle = 7
+
+-- Request 7: the exactness that is told with a reason: a side's own, and of every other edge none.
+abbrev pub notExact : Exactness
+notExact = record { a = false; b = false }
+
+unfoldable pub exactnessOf : Reason → Exactness
+exactnessOf (LeftSide e) = e
+exactnessOf (RightSide e) = e
+exactnessOf StartCap = notExact
+exactnessOf EndCap = notExact
+exactnessOf LeftJoin = notExact
+exactnessOf RightJoin = notExact
+exactnessOf Gap = notExact
+exactnessOf Circle = notExact
 
 -- ---- the edge of a reason, a vertex and a place: how many edges stand before it
 

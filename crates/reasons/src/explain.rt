@@ -3,21 +3,22 @@ use crate::Explanation;
 use crate::Reason;
 use crate::Why;
 use crate::listing::list_path;
+use contacts::Exactness;
 ghost use mathlib.Core.Path.{_≡_};
 ghost use lib.ListN.{length};
 ghost use Rattle.paths.specs.Paths.{pathOf, Within};
 ghost use Rattle.reasons.specs.Reasons.{whysOf};
 ghost use Rattle.reasons.specs.Lists.{reasonOf, explanationOf};
 
-// The reason that has a number.
-fn named(n: usize) -> Reason
-    ensures { λ r. ⌜ r ≡ reasonOf n ⌝ }
+// The reason that has a number; a side has this exactness.
+fn named(n: usize, exact: Exactness) -> Reason
+    ensures { λ r. ⌜ r ≡ reasonOf n exact ⌝ }
 {
     if n == 0 {
-        return Reason::LeftSide;
+        return Reason::LeftSide(exact);
     }
     if n == 1 {
-        return Reason::RightSide;
+        return Reason::RightSide(exact);
     }
     if n == 2 {
         return Reason::StartCap;
@@ -37,7 +38,7 @@ fn named(n: usize) -> Reason
     Reason::Circle
 }
 
-// Why an edge of a path is there; `one` is room for its three numbers.
+// Why an edge of a path is there; `one` is room for its five numbers.
 pub fn explain_path(
     path: &[i32],
     n: usize,
@@ -45,18 +46,20 @@ pub fn explain_path(
     edge: usize,
     one: &mut [usize],
 ) -> Explanation
-    requires { ⌜ (n ≡ length (pathOf (now path))) × Within grade (pathOf (now path)) × (length (now one) ≡ 3) ⌝ }
+    requires { ⌜ (n ≡ length (pathOf (now path))) × Within grade (pathOf (now path)) × (length (now one) ≡ 5) ⌝ }
     ensures { λ r. ⌜ r ≡ explanationOf (whysOf grade (pathOf (now (path .entry)))) edge ⌝ }
 {
     if 0x1_0000_0000 <= edge {
         return Explanation::NoEdge;
     }
-    let from = 3 * edge;
+    let from = 5 * edge;
     let numbers = list_path(path, n, grade, from, one);
     if numbers <= from {
         return Explanation::NoEdge;
     }
-    let reason = named(one[0]);
+    let start = one[3] == 1;
+    let end = one[4] == 1;
+    let reason = named(one[0], Exactness { a: start, b: end });
     let vertex = one[1];
     let place = one[2];
     Explanation::Edge(Why {

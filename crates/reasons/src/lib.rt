@@ -1,13 +1,16 @@
-// Why an edge is there: the rule that emits it, the vertex whose body holds it and its place under that rule; document 02, request 1.
+// Why an edge is there: the rule that emits it, the vertex whose body holds it and its place under that rule; document 02, request 1. Of a side also which
+// of its ends are exact; request 7.
+use contacts::Exactness;
+
 pub mod counts;
 pub mod explain;
 pub mod labels;
 pub mod listing;
 
-// The rule that emits an edge; numbered from 0 in this order.
+// The rule that emits an edge; numbered from 0 in this order. A side has its exactness, as the edge runs.
 pub enum Reason {
-    LeftSide,
-    RightSide,
+    LeftSide(Exactness),
+    RightSide(Exactness),
     StartCap,
     EndCap,
     LeftJoin,

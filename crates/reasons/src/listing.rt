@@ -8,6 +8,7 @@ use crate::counts::right;
 use crate::counts::side;
 use crate::counts::start;
 use crate::counts::step as counted;
+use crate::labels::backwards;
 use crate::labels::label;
 use contacts::Kind;
 use contacts::Last;
@@ -125,9 +126,11 @@ fn drawn_whys(
     let l = s.left;
     let r = s.right;
     let n = side(l.b, l.a);
-    let i = label(out, from, at, v, Reason::LeftSide, n);
+    let left_exact = backwards(s.exact.left);
+    let i = label(out, from, at, v, Reason::LeftSide(left_exact), n);
     let m = side(r.a, r.b);
-    let j = label(out, from, i, v, Reason::RightSide, m);
+    let right_exact = s.exact.right;
+    let j = label(out, from, i, v, Reason::RightSide(right_exact), m);
     meet_whys(out, from, j, v, t, chain, s)
 }
 
@@ -235,11 +238,11 @@ fn go_whys(path: &[i32], n: usize, t: Vector, from: usize, out: &mut [usize]) ->
     finish_whys(out, from, at, n, t, chain, closing)
 }
 
-// Why the edges of a path are there, three numbers an edge, from the number at `from` on, as many as the room holds; handed back is how many numbers there are.
+// Why the edges of a path are there, five numbers an edge, from the number at `from` on, as many as the room holds; handed back is how many numbers there are.
 pub fn list_path(path: &[i32], n: usize, grade: u32, from: usize, out: &mut [usize]) -> usize
     requires { ⌜ (n ≡ length (pathOf (now path))) × Within grade (pathOf (now path)) ⌝ }
     ensures told { λ r. ⌜ now (out .exit) ≡ over put (now (out .entry)) 0 (drop from (spread whyNumbers (whysOf grade (pathOf (now (path .entry)))))) ⌝ }
-    ensures count { λ r. ⌜ r ≡ 3 * length (whysOf grade (pathOf (now (path .entry)))) ⌝ }
+    ensures count { λ r. ⌜ r ≡ 5 * length (whysOf grade (pathOf (now (path .entry)))) ⌝ }
 {
     if n == 0 {
         return 0;

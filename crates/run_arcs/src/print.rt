@@ -1,6 +1,7 @@
 // An answer as text: edges, contacts, or one number.
 use crate::answer::Answer;
 use cases::entries::long;
+use contacts::Exactness;
 use contacts::Section;
 use contacts::Trend;
 use lines::page;
@@ -54,13 +55,22 @@ fn number_of(trend: Trend) -> i64 {
     }
 }
 
-// The kind of a step, the contacts of its section, and the trend.
+// Whether the two ends of a side are exact, 1 or 0.
+fn print_exact(page: &mut [u8; 4096], fill: usize, e: Exactness) -> usize {
+    let filled = after_space(page, fill, e.a as i64);
+    after_space(page, filled, e.b as i64)
+}
+
+// The kind of a step, the contacts of its section, the trend, and which contacts are exact.
 fn print_contacts(page: &mut [u8; 4096], fill: usize, kind: u64, s: Section) -> usize {
     let trend = s.trend;
     let first = page::unsigned(page, fill, kind);
     let left = print_edge(page, first, s.left);
     let right = print_edge(page, left, s.right);
-    after_space(page, right, number_of(trend))
+    let filled = after_space(page, right, number_of(trend));
+    let exact = s.exact;
+    let left_exact = print_exact(page, filled, exact.left);
+    print_exact(page, left_exact, exact.right)
 }
 
 // The answer, with the room that its edges are in.

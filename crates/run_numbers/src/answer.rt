@@ -34,7 +34,7 @@ pub fn product(a: Number, b: Number) -> Answer {
     Answer::Limbs(limbs.hi, limbs.lo)
 }
 
-// A product over a divisor.
+// A product over a divisor, and 1 if the division left nothing over, else 0.
 pub fn quotient(a: Number, b: Number, d: Number) -> Answer {
     if d.minus {
         return Answer::Outside;
@@ -57,7 +57,8 @@ pub fn quotient(a: Number, b: Number, d: Number) -> Answer {
     let first = signed(a.minus, a.size);
     let second = signed(b.minus, b.size);
     let divisor = signed(false, d.size);
-    Answer::One(number::division::mul_div(first, second, divisor))
+    let quotient = number::division::mul_div(first, second, divisor);
+    Answer::Two(quotient.value, quotient.exact as i64)
 }
 
 // The vector of these coordinates.

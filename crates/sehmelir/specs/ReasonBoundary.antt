@@ -1,10 +1,11 @@
--- Document 02, request 1: explain and list as numbers.
+-- Document 02, requests 1 and 7: explain and list as numbers.
 use mathlib.Core.Path.{_≡_}
 use mathlib.Core.List.{List}
 use Prim.Native.Nat.{ℕ}
 use lib.ListN.{length}
 use Rattle.replies.specs.Replies.{Reply as Answer}
-use Rattle.reasons.specs.Reasons.{reasonNumber}
+use Rattle.reasons.specs.Reasons.{reasonNumber, exactnessOf}
+use Rattle.reasons.specs.Lists.{exactNumber}
 use Rattle.reasons.specs.declared.Why.{Why}
 use Rattle.explaining.specs.Explaining.{explainReply, explainWhy, listReply, listOut}
 use Rattle.sehmelir.specs.Boundary.{Replies}
@@ -18,8 +19,10 @@ pub record ReasonReplies (p : ReasonReply) (told : Answer) (w : Why) : Type 0 wh
   pub number : p .number ≡ told .1
   pub vertex : p .vertex ≡ w .vertex
   pub place : p .place ≡ w .place
+  pub start : p .start ≡ exactNumber (exactnessOf (w .reason) .a)
+  pub end : p .end ≡ exactNumber (exactnessOf (w .reason) .b)
 
--- explain: reply, number, reason, vertex and place; the store is only read
+-- explain: reply, number, reason, vertex and place, and whether the ends are exact; the store is only read
 pub record ExplainReplies (store : List ℕ) (edge : ℕ) (p : ReasonReply) : Type 0 where
   pub replies : ReasonReplies p (explainReply store edge) (explainWhy store edge)
 

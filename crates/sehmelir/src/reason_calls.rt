@@ -5,6 +5,8 @@ use crate::refusal;
 use explaining::Explained;
 use explaining::Listed;
 use reasons::Why;
+use reasons::labels::exact_number;
+use reasons::labels::exactness;
 use reasons::labels::reason_number;
 use replies::Refusal;
 use replies::refusals::code;
@@ -14,7 +16,8 @@ ghost use Rattle.explaining.specs.Explaining.{replyOfExplained, whyOfExplained,
 ghost use Rattle.sehmelir.specs.Boundary.{Replies};
 ghost use Rattle.sehmelir.specs.ReasonBoundary.{ReasonReplies, ExplainReplies, ListReplies};
 
-// A reply with its number, and why an edge is there: the reason's number, the vertex and the place; all but reply and number 0 when refused.
+// A reply with its number, and why an edge is there: the reason's number, the vertex and the place, and of a side whether its start and its end are exact
+// (1 or 0; 0 of every other edge); all but reply and number 0 when refused.
 #[repr(C)]
 pub struct ReasonReply {
     pub reply: u32,
@@ -22,6 +25,8 @@ pub struct ReasonReply {
     pub number: u64,
     pub vertex: u64,
     pub place: u64,
+    pub start: u32,
+    pub end: u32,
 }
 
 // Why an edge is there, with its own number.
@@ -31,12 +36,19 @@ fn edge_told(edge: usize, why: Why) -> ReasonReply
     let reason = why.reason;
     let number = reason_number(reason);
     let named = number as u32;
+    let exact = exactness(reason);
+    let first = exact_number(exact.a);
+    let last = exact_number(exact.b);
+    let start = first as u32;
+    let end = last as u32;
     ReasonReply {
         reply: 0,
         reason: named,
         number: edge as u64,
         vertex: why.vertex as u64,
         place: why.place as u64,
+        start,
+        end,
     }
 }
 
@@ -51,6 +63,8 @@ fn refused_reason(r: Refusal) -> ReasonReply
         number: c.number,
         vertex: 0,
         place: 0,
+        start: 0,
+        end: 0,
     }
 }
 
@@ -82,7 +96,7 @@ pub extern "C" fn sehmelir_explain(store: &[u8], edge: usize) -> ReasonReply
     explained(explaining::explain(store, edge))
 }
 
-// Lists why each edge of a sound outline is there into lent numbers, three an edge.
+// Lists why each edge of a sound outline is there into lent numbers, five an edge.
 #[no_mangle]
 pub extern "C" fn sehmelir_list(store: &[u8], out: &mut [usize]) -> Reply
     ensures { λ p. ⌜ ListReplies (now (store .entry)) (now (out .entry)) p (now (out .exit)) ⌝ }

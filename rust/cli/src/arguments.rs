@@ -45,7 +45,7 @@ pub enum Command {
     DrawKerb(Kerbing),
     /// A sheet with another vertex K; the first vertex is 0
     Replace(Replacing),
-    /// Why an edge of a sheet is there, or each of them, a line an edge: edge reason vertex place
+    /// Why an edge of a sheet is there, or each of them, a line an edge: edge reason vertex place, and exact or rounded for each end of a side
     Explain(Explaining),
     /// What differs between two sheets, and what cannot
     Changed(Comparing),

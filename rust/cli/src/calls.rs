@@ -106,14 +106,14 @@ pub fn replace(
     })
 }
 
-/// Why each edge of a sheet is there: the number of its reason, its vertex and
-/// its place.
-pub fn list(sheet: &[u8]) -> Result<Vec<[usize; 3]>, Failure> {
+/// Why each edge of a sheet is there: the number of its reason, its vertex, its
+/// place, and whether its start and its end are exact.
+pub fn list(sheet: &[u8]) -> Result<Vec<[usize; 5]>, Failure> {
     // a header may say anything, but an edge has sixteen bytes
     let most = sheet.len() / 16;
     let edges = Header::of(sheet).map_or(0, |header| header.edges.min(most));
     progress::during("explaining", || {
-        with_room(edges, |room: &mut [[usize; 3]]| {
+        with_room(edges, |room: &mut [[usize; 5]]| {
             sehmelir::list(sheet, room.as_flattened_mut())
         })
     })

@@ -1,4 +1,5 @@
-//! Why edges are there, as text: a line an edge, `edge reason vertex place`.
+//! Why edges are there, as text: a line an edge, `edge reason vertex place`, and
+//! for a side `exact` or `rounded` for its start and for its end.
 
 use crate::calls;
 use crate::destination::Destination;
@@ -59,11 +60,9 @@ fn is_digits(word: &[u8]) -> bool {
 fn one(sheet: &[u8], edge: usize) -> Result<Vec<u8>, Failure> {
     let why = explain(sheet, edge)?;
     let mut text = Vec::new();
-    push_line(
-        &mut text,
-        edge,
-        [why.reason.number(), why.vertex, why.place],
-    );
+    let [start, end] = [why.start_exact, why.end_exact].map(usize::from);
+    let numbers = [why.reason.number(), why.vertex, why.place, start, end];
+    push_line(&mut text, edge, numbers);
     Ok(text)
 }
 
@@ -78,13 +77,21 @@ fn all(sheet: &[u8]) -> Result<Vec<u8>, Failure> {
 
 /// The line of an edge. All its numbers have at most 32 bits, as words of a sheet
 /// do.
-fn push_line(text: &mut Vec<u8>, edge: usize, [number, vertex, place]: [usize; 3]) {
+fn push_line(text: &mut Vec<u8>, edge: usize, numbers: [usize; 5]) {
+    let [number, vertex, place, start, end] = numbers;
+    let reason = reason(number);
     push_digits(text, edge as u32);
     text.push(b' ');
-    text.extend_from_slice(reason(number).word().as_bytes());
+    text.extend_from_slice(reason.word().as_bytes());
     for number in [vertex, place] {
         text.push(b' ');
         push_digits(text, number as u32);
+    }
+    if reason.is_side() {
+        for exact in [start, end] {
+            let word: &[u8] = if exact == 1 { b" exact" } else { b" rounded" };
+            text.extend_from_slice(word);
+        }
     }
     text.push(b'\n');
 }
@@ -97,7 +104,7 @@ fn reason(number: usize) -> Reason {
 /// The reason of each edge of a sheet.
 pub fn of_edges(sheet: &[u8]) -> Result<Vec<Reason>, Failure> {
     let listed = calls::list(sheet)?.into_iter();
-    Ok(listed.map(|[number, _, _]| reason(number)).collect())
+    Ok(listed.map(|[number, ..]| reason(number)).collect())
 }
 
 #[cfg(test)]
@@ -112,12 +119,24 @@ mod tests {
     fn a_line_an_edge() {
         let sheet = calls::keep(&[0, 0, 5, 20, 0, 5], 1).unwrap();
         let text = String::from_utf8(all(&sheet).unwrap()).unwrap();
-        assert!(text.starts_with("0 left-side 1 0\n1 right-side 1 0\n2 start-cap 1 0\n"));
+        assert!(text.starts_with(
+            "0 left-side 1 0 exact exact\n1 right-side 1 0 exact exact\n2 start-cap 1 0\n"
+        ));
         assert!(text.ends_with("\n8 end-cap 2 2\n9 end-cap 2 3\n"));
         let lines = (0..10).map(|edge| one(&sheet, edge).unwrap());
         assert_eq!(lines.collect::<Vec<_>>().concat(), text.as_bytes());
         let reasons = of_edges(&sheet).unwrap();
         assert_eq!(reasons[5..7], [Reason::StartCap, Reason::EndCap]);
+    }
+
+    /// The left side runs to a, the right one from it.
+    #[test]
+    fn a_side_tells_its_ends_as_it_runs() {
+        let sheet = calls::keep(&[0, 0, 5, 7, 2, 0], 1).unwrap();
+        let text = String::from_utf8(all(&sheet).unwrap()).unwrap();
+        assert!(text.starts_with(
+            "0 left-side 1 0 exact rounded\n1 right-side 1 0 rounded exact\n2 start-cap 1 0\n"
+        ));
     }
 
     #[test]

@@ -129,8 +129,7 @@ fn as_text(sheet: &[u8]) -> Result<Vec<u8>, Reply> {
 fn why(sheet: &[u8], edge: usize) -> Result<Vec<u8>, Reply> {
     let (refusal, why) = reasons::explain(sheet, edge);
     let why = why.ok_or(refusal)?;
-    let reason = why.reason.words();
-    Ok(format!("{edge} {reason} {} {}\n", why.vertex, why.place).into_bytes())
+    Ok(format!("{}\n", why.line(edge)).into_bytes())
 }
 
 /// Why each edge of a sheet is there, a line an edge.
@@ -145,12 +144,18 @@ fn whys(sheet: &[u8]) -> Result<Vec<u8>, Reply> {
         "gap",
         "circle",
     ];
-    let numbers = lent(vec![], 3, |room| reasons::list(sheet, room))?;
+    let numbers = lent(vec![], 5, |room| reasons::list(sheet, room))?;
     let line = |(edge, why): (usize, &[u64])| {
         let (reason, vertex, place) = (words[why[0] as usize], why[1], why[2]);
-        format!("{edge} {reason} {vertex} {place}\n")
+        let mut line = format!("{edge} {reason} {vertex} {place}");
+        if reason.ends_with("-side") {
+            for exact in &why[3..] {
+                line += [" rounded", " exact"][*exact as usize];
+            }
+        }
+        line + "\n"
     };
-    let lines = numbers.chunks_exact(3).enumerate().map(line);
+    let lines = numbers.chunks_exact(5).enumerate().map(line);
     Ok(lines.collect::<String>().into_bytes())
 }
 

@@ -22,7 +22,8 @@ fn vertex(x: i128, y: i128, radius: i128) -> Vertex {
     Vertex::new(x as i64, y as i64, radius as i64)
 }
 
-/// `1 n` root, `2 a b` product, `3 a b d` quotient, `4 x y` direction, `5 k`
+/// `1 n` root, `2 a b` product, `3 a b d` quotient and whether nothing is left
+/// over, `4 x y` direction, `5 k`
 /// step, `6 c s x y` rotation, `7 d r` scaling, `8 sq` shift.
 pub fn numbers(case: &[i128]) -> Option<String> {
     let pair = |p: Point| text([p.x, p.y]);
@@ -32,7 +33,10 @@ pub fn numbers(case: &[i128]) -> Option<String> {
             let (high, low) = product(a as u64, b as u64);
             text([high, low])
         }
-        [3, a, b, d] => mul_div(a as i64, b as i64, d as i64).to_string(),
+        [3, a, b, d] => {
+            let (value, exact) = mul_div(a as i64, b as i64, d as i64);
+            text([value, exact as i64])
+        }
         [4, x, y] => pair(direction(point(x, y))),
         [5, k] => pair(step_of_grade(k as u32)),
         [6, c, s, x, y] => pair(rotate(point(c, s), point(x, y))),
@@ -50,7 +54,8 @@ fn edges(emit: impl FnOnce(&mut Vec<Edge>)) -> String {
     text(std::iter::once(&count).chain(edges.as_flattened()))
 }
 
-/// The kind of a step and, if it is not broken, its contacts and its trend.
+/// The kind of a step and, if it is not broken, its contacts, its trend and
+/// which contacts are exact.
 fn contacts(a: Vertex, b: Vertex) -> String {
     let kind = match kind(a, b) {
         Kind::Broken => return "0".to_string(),
@@ -65,7 +70,14 @@ fn contacts(a: Vertex, b: Vertex) -> String {
     };
     let corners = [s.a_left, s.b_left, s.a_right, s.b_right];
     let corners = corners.iter().flat_map(|p| [p.x, p.y]);
-    text(std::iter::once(kind).chain(corners).chain([trend]))
+    let exact = [
+        s.a_left_exact,
+        s.b_left_exact,
+        s.a_right_exact,
+        s.b_right_exact,
+    ];
+    let numbers = std::iter::once(kind).chain(corners).chain([trend]);
+    text(numbers.chain(exact.map(i64::from)))
 }
 
 /// `1 grade cx cy radius px py qx qy choice` arc about a vertex, `2 grade cx cy radius`

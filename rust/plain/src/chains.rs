@@ -24,6 +24,12 @@ pub trait Pen {
     /// Document 02, request 1: the rule that emits what comes next.
     fn rule(&mut self, _reason: Reason) {}
 
+    /// Document 02, request 7: a side of a section, which is drawn as every
+    /// edge is, with whether its start and its end are exact.
+    fn side(&mut self, from: Point, to: Point, _exact: [bool; 2]) {
+        self.edge(from, to);
+    }
+
     /// The arc of a join, which is drawn as every arc is.
     fn join_arc(&mut self, step: Point, centre: Point, from: Point, to: Point, aligned: Sweep) {
         self.arc(step, centre, from, to, aligned);
@@ -134,9 +140,11 @@ impl Chain {
     /// chain's last section, or the start cap."
     pub fn draw(&mut self, out: &mut impl Pen, step: Point, section: Section) {
         out.rule(Reason::LeftSide);
-        out.edge(section.b_left, section.a_left);
+        let exact = [section.b_left_exact, section.a_left_exact];
+        out.side(section.b_left, section.a_left, exact);
         out.rule(Reason::RightSide);
-        out.edge(section.a_right, section.b_right);
+        let exact = [section.a_right_exact, section.b_right_exact];
+        out.side(section.a_right, section.b_right, exact);
         match &self.last {
             Some(last) => join(out, step, last, &section),
             None => {

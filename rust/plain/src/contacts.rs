@@ -1,4 +1,5 @@
 //! Document 01, "Contacts", "Three kinds of step", and covering from "Chains".
+//! Document 02, request 7: whether contacts are exact.
 
 use crate::numbers::{integer_root, mul_div, Point};
 
@@ -56,8 +57,9 @@ pub const fn shift(sq: u64) -> u32 {
 }
 
 /// Contacts, `tangent_offsets`: from the centres to a_left, a_right, b_left
-/// and b_right, where v = b - a and |ra - rb|² is below |v|².
-pub const fn tangent_offsets(v: Point, ra: i64, rb: i64) -> [Point; 4] {
+/// and b_right, where v = b - a and |ra - rb|² is below |v|²; and whether each
+/// is exact.
+pub const fn tangent_offsets(v: Point, ra: i64, rb: i64) -> [(Point, bool); 4] {
     let delta = ra - rb;
     let sq = v.squared();
     let shift = shift(sq);
@@ -77,14 +79,16 @@ pub const fn tangent_offsets(v: Point, ra: i64, rb: i64) -> [Point; 4] {
 
 /// Contacts: "Each contact is its centre plus
 /// `mul_div`(radius, numerator, sq·2^shift)": what is added to the centre.
-const fn offset(radius: i64, numerator: Point, divisor: i64) -> Point {
-    Point::new(
-        mul_div(radius, numerator.x, divisor),
-        mul_div(radius, numerator.y, divisor),
-    )
+/// Document 02, request 7: a contact is exact "when both components came out
+/// even".
+const fn offset(radius: i64, numerator: Point, divisor: i64) -> (Point, bool) {
+    let (x, x_exact) = mul_div(radius, numerator.x, divisor);
+    let (y, y_exact) = mul_div(radius, numerator.y, divisor);
+    (Point::new(x, y), x_exact && y_exact)
 }
 
-/// Two vertices, the four contacts between them and the trend.
+/// Two vertices, the four contacts between them and the trend. Document 02,
+/// request 7: "Sections carry four such marks, one for each contact".
 #[derive(Clone, Copy, Debug, PartialEq, Eq)]
 pub struct Section {
     pub a: Vertex,
@@ -94,6 +98,10 @@ pub struct Section {
     pub b_left: Point,
     pub b_right: Point,
     pub trend: Trend,
+    pub a_left_exact: bool,
+    pub a_right_exact: bool,
+    pub b_left_exact: bool,
+    pub b_right_exact: bool,
 }
 
 impl Section {
@@ -104,11 +112,15 @@ impl Section {
         Section {
             a,
             b,
-            a_left: from + al,
-            a_right: from + ar,
-            b_left: to + bl,
-            b_right: to + br,
+            a_left: from + al.0,
+            a_right: from + ar.0,
+            b_left: to + bl.0,
+            b_right: to + br.0,
             trend: trend(a.radius, b.radius),
+            a_left_exact: al.1,
+            a_right_exact: ar.1,
+            b_left_exact: bl.1,
+            b_right_exact: br.1,
         }
     }
 
@@ -190,6 +202,36 @@ mod tests {
         assert_eq!(section.b_right, Point::new(3, -1));
     }
 
+    /// The last two have a root that was cut short, which clears no mark.
+    #[test]
+    fn exact_contacts() {
+        let exact = |[ax, ay, ar]: [i64; 3], [bx, by, br]: [i64; 3]| {
+            let s = Section::new(Vertex::new(ax, ay, ar), Vertex::new(bx, by, br));
+            [
+                s.a_left_exact,
+                s.b_left_exact,
+                s.a_right_exact,
+                s.b_right_exact,
+            ]
+        };
+        assert_eq!(exact([0, 0, 5], [20, 0, 5]), [true; 4]);
+        assert_eq!(exact([0, 0, 5], [3, 4, 5]), [true; 4]);
+        assert_eq!(exact([0, 0, 2], [2, 0, 1]), [false; 4]);
+        assert_eq!(
+            exact([0, 0, 5], [7, 2, 0]),
+            [false, true, false, true],
+            "a radius of 0 is exact"
+        );
+        assert_eq!(
+            exact([0, 0, 131072], [9, 7, 131068]),
+            [true, false, false, false]
+        );
+        assert_eq!(
+            exact([0, 0, 819200], [25, 0, 819187]),
+            [true, false, true, false]
+        );
+    }
+
     #[test]
     fn shifts_run_from_1_to_31() {
         assert_eq!([1, 2, 3, 4, 1 << 59].map(shift), [31, 30, 30, 30, 1]);
@@ -222,9 +264,13 @@ mod tests {
             }
             drawn += 1;
             let offsets = tangent_offsets(b.centre() - a.centre(), a.radius, b.radius);
-            for (offset, r) in offsets.iter().zip([a.radius, a.radius, b.radius, b.radius]) {
+            for ((offset, exact), r) in offsets
+                .into_iter()
+                .zip([a.radius, a.radius, b.radius, b.radius])
+            {
                 assert!(offset.x.abs() <= r && offset.y.abs() <= r);
-                assert_eq!(*offset == Point::ORIGIN, r == 0);
+                assert_eq!(offset == Point::ORIGIN, r == 0);
+                assert!(exact || r != 0);
             }
         }
     }

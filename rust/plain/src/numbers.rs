@@ -66,8 +66,9 @@ pub const fn product(a: u64, b: u64) -> (u64, u64) {
 
 /// Numbers underneath, `mul_div`: "the product over the divisor, nearest
 /// whole number, halves away from zero, sign worked out apart". The divisor
-/// is above 0.
-pub const fn mul_div(a: i64, b: i64, divisor: i64) -> i64 {
+/// is above 0. Document 02, request 7: "whether the division left nothing
+/// over" stands beside it.
+pub const fn mul_div(a: i64, b: i64, divisor: i64) -> (i64, bool) {
     let divisor = divisor as u64;
     let (high, low) = product(a.unsigned_abs(), b.unsigned_abs());
     let quotient = if high == 0 {
@@ -77,11 +78,8 @@ pub const fn mul_div(a: i64, b: i64, divisor: i64) -> i64 {
     };
     let rest = low.wrapping_sub(quotient.wrapping_mul(divisor));
     let size = quotient as i64 + (rest >= divisor - rest) as i64;
-    if (a < 0) != (b < 0) {
-        -size
-    } else {
-        size
-    }
+    let value = if (a < 0) != (b < 0) { -size } else { size };
+    (value, rest == 0)
 }
 
 /// Numbers underneath, direction: "each component has the sign of its
@@ -120,7 +118,7 @@ pub const fn rotate(step: Point, v: Point) -> Point {
 
 /// Numbers underneath, scaling: "`mul_div` by the radius over 2^30".
 pub const fn scale(component: i64, radius: i64) -> i64 {
-    mul_div(component, radius, UNIT)
+    mul_div(component, radius, UNIT).0
 }
 
 #[cfg(test)]
@@ -162,11 +160,13 @@ mod tests {
 
     #[test]
     fn quotients_of_the_document() {
-        assert_eq!(mul_div(5, 3, 2), 8);
-        assert_eq!(mul_div(-5, 3, 2), -8);
-        assert_eq!(mul_div(5, -3, 2), -8);
-        assert_eq!(mul_div(-5, -3, 2), 8);
-        assert_eq!(mul_div(1, -1, 3), 0);
+        assert_eq!(mul_div(5, 3, 2), (8, false));
+        assert_eq!(mul_div(-5, 3, 2), (-8, false));
+        assert_eq!(mul_div(5, -3, 2), (-8, false));
+        assert_eq!(mul_div(-5, -3, 2), (8, false));
+        assert_eq!(mul_div(1, -1, 3), (0, false));
+        assert_eq!(mul_div(6, -2, 3), (-4, true));
+        assert_eq!(mul_div(0, 5, 7), (0, true));
     }
 
     #[test]
@@ -177,10 +177,12 @@ mod tests {
             let divisor = 1 + random.below(1 << bits) as i64;
             let a = random.between(-(1 << 28), 1 << 28);
             let b = random.between(-divisor, divisor);
-            let q = mul_div(a, b, divisor) as i128;
+            let (q, exact) = mul_div(a, b, divisor);
+            let q = q as i128;
             let twice = 2 * (q * divisor as i128 - a as i128 * b as i128);
             let away = twice * q.signum();
             assert!(-(divisor as i128) < away && away <= divisor as i128);
+            assert_eq!(exact, twice == 0);
         }
     }
 

@@ -2,7 +2,8 @@
 //!
 //! "Names the reason: left or right side of a section, start cap, end cap, left
 //! join, right join, closing of a gap, or a circle, with the vertex whose body
-//! holds it (n for closing) and its place from 0 under that rule."
+//! holds it (n for closing) and its place from 0 under that rule." Request 7:
+//! it "prints" the marks of exact contacts "for section edges".
 
 use crate::arcs::{Edge, Sweep};
 use crate::calls::{kept_drawing, settle, tested_room, Reply};
@@ -40,25 +41,48 @@ impl Reason {
     }
 }
 
-/// Why an edge is there.
+/// Why an edge is there, and of a side whether its start and its end are exact;
+/// "marks of edges that are no side: 0".
 #[derive(Clone, Copy, Debug, PartialEq, Eq)]
 pub struct Why {
     pub reason: Reason,
     pub vertex: usize,
     pub place: usize,
+    pub exact: [bool; 2],
+}
+
+impl Why {
+    /// "A line is `edge reason vertex place`"; "a side's line goes on with
+    /// `exact` or `rounded` for its start and for its end, as the edge runs".
+    pub fn line(&self, edge: usize) -> String {
+        let mut line = format!(
+            "{edge} {} {} {}",
+            self.reason.words(),
+            self.vertex,
+            self.place
+        );
+        if matches!(self.reason, Reason::LeftSide | Reason::RightSide) {
+            for exact in self.exact {
+                line += if exact { " exact" } else { " rounded" };
+            }
+        }
+        line
+    }
 }
 
 /// A pen that notes for each edge which rule was at work.
 struct Named {
     edges: Vec<Edge>,
-    reasons: Vec<Reason>,
+    reasons: Vec<(Reason, [bool; 2])>,
     rule: Reason,
+    exact: [bool; 2],
 }
 
 impl Named {
     /// Whatever was emitted is the rule's.
     fn name(&mut self) {
-        self.reasons.resize(self.edges.len(), self.rule);
+        self.reasons
+            .resize(self.edges.len(), (self.rule, self.exact));
     }
 }
 
@@ -81,6 +105,12 @@ impl Pen for Named {
     fn rule(&mut self, reason: Reason) {
         self.rule = reason;
     }
+
+    fn side(&mut self, from: Point, to: Point, exact: [bool; 2]) {
+        self.exact = exact;
+        self.edge(from, to);
+        self.exact = [false; 2];
+    }
 }
 
 /// Why each edge of a path is there. "A gap's edges are counted as edges": a
@@ -90,6 +120,7 @@ pub fn whys(path: &[Vertex], grade: u32) -> Vec<Why> {
         edges: Vec::new(),
         reasons: Vec::new(),
         rule: Reason::Circle,
+        exact: [false; 2],
     };
     let mut ends = Vec::new();
     trace(path, grade, &mut named, |named: &Named| {
@@ -99,12 +130,13 @@ pub fn whys(path: &[Vertex], grade: u32) -> Vec<Why> {
     let mut start = 0;
     for (vertex, end) in ends.into_iter().enumerate() {
         let mut places = [0; 8];
-        for &reason in &named.reasons[start..end] {
+        for &(reason, exact) in &named.reasons[start..end] {
             let place = &mut places[reason as usize];
             whys.push(Why {
                 reason,
                 vertex,
                 place: *place,
+                exact,
             });
             *place += 1;
         }
@@ -126,14 +158,17 @@ pub fn explain(store: &[u8], edge: usize) -> (Reply, Option<Why>) {
     }
 }
 
-/// Why each edge of a store is there, three numbers an edge.
+/// Why each edge of a store is there, five numbers an edge.
 pub fn list(store: &[u8], room: &mut [u64]) -> Reply {
     settle(|| {
         let (path, grade) = kept_drawing(store)?;
         let whys = whys(&path, grade);
-        tested_room(whys.len(), 3, room.len())?;
-        for (numbers, why) in room.chunks_exact_mut(3).zip(&whys) {
-            numbers.copy_from_slice(&[why.reason as u64, why.vertex as u64, why.place as u64]);
+        tested_room(whys.len(), 5, room.len())?;
+        for (numbers, why) in room.chunks_exact_mut(5).zip(&whys) {
+            let [start, end] = why.exact.map(u64::from);
+            let named = [why.reason as u64, why.vertex as u64, why.place as u64];
+            numbers[..3].copy_from_slice(&named);
+            numbers[3..].copy_from_slice(&[start, end]);
         }
         Ok(Reply::new(0, whys.len() as u64))
     })
@@ -142,8 +177,7 @@ pub fn list(store: &[u8], room: &mut [u64]) -> Reply {
 /// "A store of at most 60 KiB."
 pub const MOST_BYTES: usize = 60 * 1024;
 
-/// What the small program prints: a line an edge, `edge reason vertex place`,
-/// or one line that says why not.
+/// What the small program prints: a line an edge, or one line that says why not.
 pub fn printed(store: &[u8]) -> String {
     if store.len() > MOST_BYTES {
         return "refused: the input is longer than 60 KiB\n".to_string();
@@ -154,8 +188,7 @@ pub fn printed(store: &[u8]) -> String {
         Err(Reply { reply, number, .. }) => return format!("refused: {reply} {number}\n"),
     };
     for (edge, why) in whys(&path, grade).iter().enumerate() {
-        let reason = why.reason.words();
-        writeln!(text, "{edge} {reason} {} {}", why.vertex, why.place).expect("a text grows");
+        writeln!(text, "{}", why.line(edge)).expect("a text grows");
     }
     text
 }
@@ -192,8 +225,19 @@ mod tests {
             reason: Reason::Gap,
             vertex,
             place,
+            exact: [false; 2],
         };
         assert_eq!(gaps, [gap(3, 0)]);
+    }
+
+    /// The left side runs from b_left to a_left, the right one from a_right to
+    /// b_right; the radius 0 at the end is exact.
+    #[test]
+    fn a_side_tells_its_ends_as_it_runs() {
+        let whys = whys(&path(&[[0, 0, 5], [7, 2, 0]]), 1);
+        assert_eq!(whys[0].line(0), "0 left-side 1 0 exact rounded");
+        assert_eq!(whys[1].line(1), "1 right-side 1 0 rounded exact");
+        assert_eq!(whys[2].line(2), "2 start-cap 1 0");
     }
 
     #[test]

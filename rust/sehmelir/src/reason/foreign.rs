@@ -12,6 +12,8 @@ pub struct Explained {
     number: u64,
     vertex: u64,
     place: u64,
+    start_exact: u32,
+    end_exact: u32,
 }
 
 impl Explained {
@@ -22,6 +24,8 @@ impl Explained {
                 reason: reason(self.reason as usize),
                 vertex: self.vertex as usize,
                 place: self.place as usize,
+                start_exact: self.start_exact == 1,
+                end_exact: self.end_exact == 1,
             }),
             reply => Err(refused(reply, self.number)),
         }

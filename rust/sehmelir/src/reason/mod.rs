@@ -58,6 +58,18 @@ impl Reason {
         self as usize
     }
 
+    /// Whether it is a side of a section, whose ends can be exact.
+    ///
+    /// ```
+    /// use sehmelir::Reason;
+    ///
+    /// assert!(Reason::RightSide.is_side());
+    /// assert!(!Reason::RightJoin.is_side());
+    /// ```
+    pub fn is_side(self) -> bool {
+        matches!(self, Reason::LeftSide | Reason::RightSide)
+    }
+
     /// Its word, which it is displayed as.
     ///
     /// ```
@@ -96,19 +108,38 @@ pub struct Why {
     pub vertex: usize,
     /// Its place among the edges that the rule draws there, from 0 on.
     pub place: usize,
+    /// Of a side, whether the contact at its start is exact: no division that
+    /// gave it left anything over. `false` of every other edge.
+    pub start_exact: bool,
+    /// The same of its end.
+    pub end_exact: bool,
 }
 
 /// Tells why an edge of a sound outline is there. Edges are counted from 0, in
 /// the order in which they stand.
 ///
 /// ```
-/// use sehmelir::{explain, outline, Reason, Why};
+/// use sehmelir::{explain, outline, Reason};
 ///
 /// let store = outline(&[0, 0, 5, 20, 0, 5], 1)?;
-/// let why = |reason, vertex, place| Ok(Why { reason, vertex, place });
-/// assert_eq!(explain(&store, 0), why(Reason::LeftSide, 1, 0));
-/// assert_eq!(explain(&store, 3), why(Reason::StartCap, 1, 1));
-/// assert_eq!(explain(&store, 9), why(Reason::EndCap, 2, 3));
+/// let told = |edge| explain(&store, edge).map(|why| (why.reason, why.vertex, why.place));
+/// assert_eq!(told(0), Ok((Reason::LeftSide, 1, 0)));
+/// assert_eq!(told(3), Ok((Reason::StartCap, 1, 1)));
+/// assert_eq!(told(9), Ok((Reason::EndCap, 2, 3)));
+/// # Ok::<(), sehmelir::Refusal>(())
+/// ```
+///
+/// Of a side it tells which of its contacts are exact, as the edge runs: the left
+/// side from the later vertex to the earlier, the right side onwards. A radius of
+/// 0 is exact.
+///
+/// ```
+/// use sehmelir::{explain, outline};
+///
+/// let store = outline(&[0, 0, 5, 7, 2, 0], 1)?;
+/// let exact = |edge| explain(&store, edge).map(|why| (why.start_exact, why.end_exact));
+/// assert_eq!(exact(0), Ok((true, false)));
+/// assert_eq!(exact(1), Ok((false, true)));
 /// # Ok::<(), sehmelir::Refusal>(())
 /// ```
 ///
@@ -132,19 +163,20 @@ pub fn explain(store: &[u8], edge: usize) -> Result<Why, Refusal> {
     foreign::explain(store, edge).why()
 }
 
-/// Lists why each edge of a sound outline is there into lent numbers, three an
+/// Lists why each edge of a sound outline is there into lent numbers, five an
 /// edge, and returns how many edges there are.
 ///
-/// The numbers are the [`Reason`]'s, the vertex whose body holds the edge, and
-/// its place under that rule. Numbers of `out` past those of the edges stay as
-/// they were. The time that it takes grows with the edges.
+/// The numbers are the [`Reason`]'s, the vertex whose body holds the edge, its
+/// place under that rule, and 1 or 0 for whether its start and its end are exact.
+/// Numbers of `out` past those of the edges stay as they were. The time that it
+/// takes grows with the edges.
 ///
 /// ```
 /// let store = sehmelir::outline(&[0, 0, 5, 20, 0, 5], 1)?;
-/// let mut out = [99; 32];
+/// let mut out = [99; 52];
 /// assert_eq!(sehmelir::list(&store, &mut out), Ok(10));
-/// assert_eq!(out[..12], [0, 1, 0, 1, 1, 0, 2, 1, 0, 2, 1, 1]);
-/// assert_eq!(out[27..], [3, 2, 3, 99, 99]);
+/// assert_eq!(out[..15], [0, 1, 0, 1, 1, 1, 1, 0, 1, 1, 2, 1, 0, 0, 0]);
+/// assert_eq!(out[45..], [3, 2, 3, 0, 0, 99, 99]);
 /// # Ok::<(), sehmelir::Refusal>(())
 /// ```
 ///
@@ -158,7 +190,7 @@ pub fn explain(store: &[u8], edge: usize) -> Result<Why, Refusal> {
 /// use sehmelir::{list, outline, Refusal};
 ///
 /// let store = outline(&[0, 0, 10], 1)?;
-/// assert_eq!(list(&store, &mut [0; 23]), Err(Refusal::NoRoom(8)));
+/// assert_eq!(list(&store, &mut [0; 39]), Err(Refusal::NoRoom(8)));
 /// # Ok::<(), Refusal>(())
 /// ```
 pub fn list(store: &[u8], out: &mut [usize]) -> Result<usize, Refusal> {
@@ -169,11 +201,11 @@ pub fn list(store: &[u8], out: &mut [usize]) -> Result<usize, Refusal> {
 /// without a room.
 ///
 /// ```
-/// use sehmelir::{outline, whys, Reason, Why};
+/// use sehmelir::{outline, whys, Reason};
 ///
 /// let circle = whys(&outline(&[0, 0, 10], 1)?)?;
 /// assert_eq!(circle.len(), 8);
-/// assert_eq!(circle[5], Why { reason: Reason::Circle, vertex: 1, place: 5 });
+/// assert_eq!((circle[5].reason, circle[5].vertex, circle[5].place), (Reason::Circle, 1, 5));
 /// # Ok::<(), sehmelir::Refusal>(())
 /// ```
 ///
@@ -181,15 +213,17 @@ pub fn list(store: &[u8], out: &mut [usize]) -> Result<usize, Refusal> {
 ///
 /// Those of [`list`] but [`NoRoom`](Refusal::NoRoom).
 pub fn whys(store: &[u8]) -> Result<Vec<Why>, Refusal> {
-    let numbers = with_room(|out: &mut [[usize; 3]]| list(store, out.as_flattened_mut()))?;
+    let numbers = with_room(|out: &mut [[usize; 5]]| list(store, out.as_flattened_mut()))?;
     Ok(numbers.into_iter().map(why).collect())
 }
 
-/// Why an edge is there, of its three numbers.
-fn why([reason, vertex, place]: [usize; 3]) -> Why {
+/// Why an edge is there, of its five numbers.
+fn why([reason, vertex, place, start, end]: [usize; 5]) -> Why {
     Why {
         reason: foreign::reason(reason),
         vertex,
         place,
+        start_exact: start == 1,
+        end_exact: end == 1,
     }
 }

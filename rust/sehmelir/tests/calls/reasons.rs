@@ -1,5 +1,6 @@
-//! Document 02, request 1: reasons by hand, and each call of the archive beside
-//! `plain`'s: the same answer, and the same lent memory afterwards.
+//! Document 02, requests 1 and 7: reasons and exact contacts by hand, and each
+//! call of the archive beside `plain`'s: the same answer, and the same lent
+//! memory afterwards.
 
 use crate::beside_plain::{answer, cases, outline, store, Tally, SHORT, VERTICES};
 use crate::kerbs;
@@ -18,6 +19,8 @@ struct Explained {
     number: u64,
     vertex: u64,
     place: u64,
+    start_exact: u32,
+    end_exact: u32,
 }
 
 extern "C" {
@@ -32,6 +35,8 @@ fn why(why: told::Why) -> Why {
         reason,
         vertex: why.vertex,
         place: why.place,
+        start_exact: why.exact[0],
+        end_exact: why.exact[1],
     }
 }
 
@@ -44,8 +49,22 @@ fn explained(store: &[u8], edge: usize) -> Reply {
     assert_eq!(answered, due, "explain {store:?} {edge}");
     // SAFETY: pointer and length are those of a slice
     let raw = unsafe { sehmelir_explain(store.as_ptr(), store.len(), edge) };
-    let beside = [raw.reason as usize, raw.vertex as usize, raw.place as usize];
-    let due = due.map_or([0; 3], |why| [why.reason.number(), why.vertex, why.place]);
+    let beside = [
+        u64::from(raw.reason),
+        raw.vertex,
+        raw.place,
+        u64::from(raw.start_exact),
+        u64::from(raw.end_exact),
+    ];
+    let due = due.map_or([0; 5], |why| {
+        [
+            why.reason.number() as u64,
+            why.vertex as u64,
+            why.place as u64,
+            u64::from(why.start_exact),
+            u64::from(why.end_exact),
+        ]
+    });
     assert_eq!((raw.reply, raw.number), (reply.reply, reply.number));
     assert_eq!(beside, due, "explain {store:?} {edge}");
     reply
@@ -93,6 +112,7 @@ fn runs(path: &[[i32; 3]], grade: u32) -> Vec<String> {
             reason,
             vertex,
             place,
+            ..
         } = whys[edge];
         format!("{reason} {vertex} {}", place + 1)
     });
@@ -131,6 +151,39 @@ fn by_hand() {
     assert_eq!(joins, ["left-join 2 807", "right-join 2 807"]);
 }
 
+/// The sides of a path, `e` for an exact end and `r` for a rounded one, as the
+/// edge runs: the left side from b_left to a_left, the right one from a_right to
+/// b_right.
+fn ends(path: &[[i32; 3]]) -> Vec<String> {
+    let whys = whys(&outline(path, 1)).unwrap();
+    for why in whys.iter().filter(|why| !why.reason.is_side()) {
+        assert!(!why.start_exact && !why.end_exact);
+    }
+    let sides = whys.iter().filter(|why| why.reason.is_side());
+    let letters = |exact| if exact { 'e' } else { 'r' };
+    let ends = sides.map(|why| [why.start_exact, why.end_exact].map(letters));
+    ends.map(String::from_iter).collect()
+}
+
+#[test]
+fn exact_contacts_by_hand() {
+    assert_eq!(ends(&[[0, 0, 5], [20, 0, 5]]), ["ee", "ee"]);
+    assert_eq!(ends(&[[0, 0, 5], [3, 4, 5]]), ["ee", "ee"]);
+    // the half of reading 12, and one component alone that comes out even
+    assert_eq!(ends(&[[0, 0, 2], [2, 0, 1]]), ["rr", "rr"]);
+    assert_eq!(ends(&[[0, 0, 2], [4, 0, 0]]), ["er", "re"]);
+    // a radius of 0 is exact
+    assert_eq!(ends(&[[0, 0, 5], [7, 2, 0]]), ["er", "re"]);
+    assert_eq!(ends(&[[7, 2, 0], [0, 0, 5]]), ["re", "er"]);
+    // one side alone, and both, of a root that was cut short
+    assert_eq!(ends(&[[0, 0, 131072], [9, 7, 131068]]), ["re", "rr"]);
+    assert_eq!(ends(&[[0, 0, 819200], [25, 0, 819187]]), ["re", "er"]);
+    assert_eq!(
+        ends(&[[0, 0, 5], [20, 0, 5], [27, 2, 0]]),
+        ["ee", "ee", "er", "re"]
+    );
+}
+
 /// Every reason is on one sheet, and each edge is told alike by both calls.
 #[test]
 fn every_reason() {
@@ -156,15 +209,22 @@ fn every_reason() {
 }
 
 /// No two edges have the same reason, vertex and place; places begin with 0 and
-/// go on without a gap.
+/// go on without a gap. Sides with each pair of exact and rounded ends are there.
 #[test]
 fn no_two_alike() {
     let mut maker = Maker::new(31);
+    let mut sides = HashSet::new();
     for _ in 0..cases() / 5 {
         let (path, grade) = (maker.path(VERTICES), maker.grade());
         let whys = whys(&outline(&path, grade)).unwrap();
         let all: HashSet<Why> = whys.iter().copied().collect();
-        assert_eq!(all.len(), whys.len(), "{path:?} {grade}");
+        let places = whys.iter().map(|why| (why.reason, why.vertex, why.place));
+        assert_eq!(places.collect::<HashSet<_>>().len(), whys.len());
+        sides.extend(
+            whys.iter()
+                .filter(|why| why.reason.is_side())
+                .map(|why| (why.reason, why.start_exact, why.end_exact)),
+        );
         for why in whys.iter().filter(|why| why.place > 0) {
             let place = why.place - 1;
             assert!(all.contains(&Why { place, ..*why }), "{path:?} {grade}");
@@ -174,6 +234,7 @@ fn no_two_alike() {
             .iter()
             .all(|why| (1..=path.len()).contains(&why.vertex)));
     }
+    assert_eq!(sides.len(), 8);
 }
 
 #[test]
@@ -191,7 +252,7 @@ fn lists() {
     let (mut maker, mut tally) = (Maker::new(33), Tally::default());
     for _ in 0..cases() {
         let store = any_store(&mut maker);
-        tally.count(listed(&store, maker.room(3 * edges(&store))));
+        tally.count(listed(&store, maker.room(5 * edges(&store))));
     }
     tally.assert_just(&[0, 2, 3, 4, 5, 6, 7, 8, 11, 12]);
 }
@@ -218,8 +279,8 @@ fn every_short_room() {
     for path in SHORT {
         let store = outline(path, 1);
         let count = edges(&store);
-        for length in 0..3 * count + 5 {
-            let reply = if length >= 3 * count { 0 } else { 5 };
+        for length in 0..5 * count + 7 {
+            let reply = if length >= 5 * count { 0 } else { 5 };
             assert_eq!(listed(&store, length), Reply::new(reply, count as u64));
         }
     }
@@ -236,10 +297,10 @@ fn every_damaged_byte_and_every_cut() {
                 store[at] ^= change;
                 let reply = explained(&store, 0).reply;
                 assert!(reply != 0 || count == 0);
-                assert_eq!(reply == 10, listed(&store, 3 * count).reply == 0);
+                assert_eq!(reply == 10, listed(&store, 5 * count).reply == 0);
             }
             assert_eq!(explained(&sound[..at], 0).reply, 6);
-            assert_eq!(listed(&sound[..at], 3 * count).reply, 6);
+            assert_eq!(listed(&sound[..at], 5 * count).reply, 6);
         }
     }
 }

@@ -50,7 +50,7 @@ fn is_at_most_what_is_said() {
             assert_eq!((kept.vertices, kept.grade), (vertices, grade));
             assert_eq!(reach(&store, 0), Ok(2));
             assert!(explain(&store, edges / 2).is_ok());
-            let mut numbers = vec![0; 3 * (edges + 2_000)];
+            let mut numbers = vec![0; 5 * (edges + 2_000)];
             assert!(list(&store, &mut numbers).is_ok());
         });
     }

@@ -1,6 +1,6 @@
 -- `contacts::sections::section` meets its contract: its contacts are those of the step's offsets, which leave room. Assumes nothing.
 use borrow.Author.Needs.{needs}
-use Rattle.contacts.proofs.Tangents.{Offset, offsets-ready, offsets-are, left-ready, right-ready, section-is}
+use Rattle.contacts.proofs.Tangents.{Offset, offsets-ready, offsets-are, left-ready, right-ready, contacts-are, section-is}
 use Rattle.contacts.proofs.sections.section.Statement.{statement}
 use Rattle.contacts.proofs.sections.section.Tie as tie
 
@@ -32,7 +32,7 @@ trend-requires : tie.Need-trend-requires
 trend-requires c κs = search needs
 
 returns : tie.Need-returns
-returns c = section-is _ _ (offsets (c .before .before .before .before .before)) (c .before .before .contacts .ensures) (c .before .contacts2 .ensures) (c .trend .ensures)
+returns c = section-is _ _ (offsets (c .before .before .before .before .before .before .before .before .before)) (contacts-are (c .before .before .before .before .before .before .contacts .ensures .0) (c .before .before .before .before .before .before .contacts .ensures .1)) (contacts-are (c .before .before .before .before .before .contacts2 .ensures .0) (c .before .before .before .before .before .contacts2 .ensures .1)) (c .trend .ensures)
 
 pub section-spec : {M : Type 1} → statement M
 section-spec =

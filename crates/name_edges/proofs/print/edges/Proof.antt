@@ -1,4 +1,4 @@
--- `name_edges::print::edges` is safe and ends: a third of the list has three numbers for each edge. Assumes nothing.
+-- `name_edges::print::edges` is safe and ends: a fifth of the list has five numbers for each edge. Assumes nothing.
 use Prim.Native.Nat.{_-_, _≤_}
 use borrow.Author.Needs.{needs}
 use lib.ListN.{length}
@@ -44,6 +44,24 @@ mul-edge-line-3 c = search needs
 shared-slice-read-edge-line-3 : tie.Need-shared-slice-read-edge-line-3 Inv-loop μ-loop
 shared-slice-read-edge-line-3 c = search needs
 
+add-edge-line-3 : tie.Need-add-edge-line-3 Inv-loop μ-loop
+add-edge-line-3 c = search needs
+
+mul-edge-line-4 : tie.Need-mul-edge-line-4 Inv-loop μ-loop
+mul-edge-line-4 c = search needs
+
+shared-slice-read-edge-line-4 : tie.Need-shared-slice-read-edge-line-4 Inv-loop μ-loop
+shared-slice-read-edge-line-4 c = search needs
+
+add-edge-line-4 : tie.Need-add-edge-line-4 Inv-loop μ-loop
+add-edge-line-4 c = search needs
+
+mul-edge-line-5 : tie.Need-mul-edge-line-5 Inv-loop μ-loop
+mul-edge-line-5 c = search needs
+
+shared-slice-read-edge-line-5 : tie.Need-shared-slice-read-edge-line-5 Inv-loop μ-loop
+shared-slice-read-edge-line-5 c = search needs
+
 edge-line-requires : tie.Need-edge-line-requires Inv-loop μ-loop
 edge-line-requires c κs = search needs
 
@@ -76,6 +94,12 @@ edges-spec =
     add-edge-line-2
     mul-edge-line-3
     shared-slice-read-edge-line-3
+    add-edge-line-3
+    mul-edge-line-4
+    shared-slice-read-edge-line-4
+    add-edge-line-4
+    mul-edge-line-5
+    shared-slice-read-edge-line-5
     edge-line-requires
     add-edge
     loop-less

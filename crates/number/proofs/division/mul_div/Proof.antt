@@ -8,7 +8,7 @@ use mir.Syntax.{w64}
 use mir.Facts.{toZ-ofZ}
 use Rattle.whole.proofs.Sizes.{sfits-abs}
 use Rattle.whole.proofs.Order.{nonneg, positive}
-use Rattle.number.specs.MulDiv.{withSign, nearestOf}
+use Rattle.number.specs.MulDiv.{withSign, nearestOf, noneLeft, exactOf}
 use Rattle.number.proofs.Nearest.{apart, mul-div-sign}
 use Rattle.number.proofs.division.mul_div.Statement.{statement}
 use Rattle.number.proofs.division.mul_div.Tie as tie
@@ -42,6 +42,7 @@ signed-requires : tie.Need-signed-requires
 signed-requires c κs = search needs
 
 returns : tie.Need-returns
+unfolding exactOf
 returns c =
     let s = c .before .before .before .before in
     let a = s .args .a in
@@ -50,10 +51,12 @@ returns c =
     let ha = s .fits .a in
     let hb = s .fits .b in
     let hd = s .fits .d in
-    let n : c .before .nearest .result ≡ nearestOf (natAbs a * natAbs b) d =
+    let n : c .before .nearest .result .quotient ≡ nearestOf (natAbs a * natAbs b) d =
     simp (toZ-ofZ, left (c .before .before), right (c .before .before)) at (c .before .nearest .ensures .0) in
-    let e : c .signed .result ≡ withSign (apart a b) (c .before .nearest .result) = simp toZ-ofZ at (c .signed .ensures) in
-    toZ-ofZ {w = w64} (record { sfits = c .signed .ok }) ∙ e ∙ ap (withSign (apart a b)) n ∙ sym (mul-div-sign a b d (positive (s .pre .2) .2))
+    let x : c .before .nearest .result .exact ≡ noneLeft (natAbs a * natAbs b) d =
+    simp (toZ-ofZ, left (c .before .before), right (c .before .before)) at (c .before .nearest .ensures .2) in
+    let e : c .signed .result ≡ withSign (apart a b) (c .before .nearest .result .quotient) = simp toZ-ofZ at (c .signed .ensures) in
+    (toZ-ofZ {w = w64} (record { sfits = c .signed .ok }) ∙ e ∙ ap (withSign (apart a b)) n ∙ sym (mul-div-sign a b d (positive (s .pre .2) .2)), x)
 
 pub mul-div-spec : {M : Type 1} → statement M
 mul-div-spec =

@@ -5,7 +5,7 @@ use Prim.Native.Nat.{ℕ, _*_, _^_, _≤_, _<_}
 use borrow.Author.Needs.{needs}
 use native.Mathlib.Omega.{arith}
 use lib.Pow.{pow-pos}
-use Rattle.number.proofs.Leading.{Led, led, up, same}
+use Rattle.number.proofs.Leading.{Led, led, up, same, up-exact, same-exact}
 use Rattle.number.proofs.division.nearest.Statement.{statement}
 use Rattle.number.proofs.division.nearest.Tie as tie
 
@@ -62,6 +62,9 @@ end c = known (c .before .before .before .before .before .before)
 bound : (c : Last) → c .before .before .before .before .before .before .before .before .before .args .den < 2 ^ 62
 bound c = c .before .before .before .before .before .before .before .before .before .pre .3
 
+some : (c : Last) → 0 < c .before .before .before .before .before .before .before .before .before .args .den
+some c = c .before .before .before .before .before .before .before .before .before .pre .2
+
 mul-a : tie.Need-mul-a
 mul-a c =
     let a = c .before .before .before .before .before in
@@ -84,14 +87,23 @@ add-if1 c = omega (arith, end c .right, bound c)
 mul-if1-2 : tie.Need-mul-if1-2
 mul-if1-2 c = omega (arith, c .before .before .lift .ensures, end c .left, end c .rest, bound c)
 
-add-result : tie.Need-add-result
-add-result c = omega (arith, end (c .before) .quo)
+add-up : tie.Need-add-up
+add-up c = record { fits = omega (arith, end (c .before) .quo) }
+
+add-due : tie.Need-add-due
+add-due c = record { fits = omega (arith, end (c .before) .right, bound (c .before)) }
 
 returns : tie.Need-returns
-returns c = (up _ _ _ _ _ _ _ _ (end (c .before)) (pow-pos _) (rw (c .before .before .before .lift .ensures) at (c .if1 .taken)), omega (arith, end (c .before) .quo))
+returns c =
+    let l = c .before .before .before .lift .ensures in
+    let h = rw l at (c .if1 .taken) in
+    (up _ _ _ _ _ _ _ _ (end (c .before)) (pow-pos _) h, omega (arith, end (c .before) .quo), rw l (up-exact _ _ _ _ _ _ _ _ (end (c .before)) (some (c .before)) h))
 
 returns-2 : tie.Need-returns-2
-returns-2 c = (same _ _ _ _ _ _ _ _ (end (c .before)) (pow-pos _) (rw (c .before .before .before .lift .ensures) at (c .if1 .left)), omega (arith, end (c .before) .quo))
+returns-2 c =
+    let l = c .before .before .before .lift .ensures in
+    let h = rw l at (c .if1 .left) in
+    (same _ _ _ _ _ _ _ _ (end (c .before)) (pow-pos _) h, omega (arith, end (c .before) .quo), rw l (same-exact _ _ _ _ _ _ _ _ (end (c .before)) (some (c .before)) h))
 
 pub nearest-spec : {M : Type 1} → statement M
 nearest-spec =
@@ -110,6 +122,7 @@ nearest-spec =
     mul-if1
     add-if1
     mul-if1-2
-    add-result
+    add-up
+    add-due
     returns
     returns-2)

@@ -1,4 +1,4 @@
--- `reasons::explain::explain_path` meets its contract: the three numbers at the edge's place in the list, if the list reaches so far. Assumes nothing.
+-- `reasons::explain::explain_path` meets its contract: the five numbers at the edge's place in the list, if the list reaches so far. Assumes nothing.
 use mathlib.Core.Path.{refl}
 use borrow.Author.Needs.{needs}
 use native.Mathlib.Omega.{arith}
@@ -23,6 +23,12 @@ same-length c = search needs
 returns-2 : tie.Need-returns-2
 returns-2 c = explained-none (whysOf (c .before .before .before .before .before .before .before .args .grade) (pathOf (c .before .before .before .before .before .before .before .args .path .now))) (c .before .before .before .before .before .before .before .args .edge) (omega (arith, c .before .before .before .list-path .ensures .1, c .if2 .taken))
 
+slice-read-start : tie.Need-slice-read-start
+slice-read-start c = search needs
+
+slice-read-end : tie.Need-slice-read-end
+slice-read-end c = search needs
+
 slice-read-named : tie.Need-slice-read-named
 slice-read-named c = search needs
 
@@ -39,7 +45,7 @@ same-length-2 : tie.Need-same-length-2
 same-length-2 c = search needs
 
 returns-3 : tie.Need-returns-3
-returns-3 c = explained-edge (whysOf (c .before .before .before .before .before .before .before .before .before .before .before .args .grade) (pathOf (c .before .before .before .before .before .before .before .before .before .before .before .args .path .now))) (c .before .before .before .before .before .before .before .before .before .before .before .args .edge) (c .before .before .before .before .before .before .before .before .before .before .before .args .one .now) (c .before .before .before .before .before .before .before .before .before .before .before .pre .2) (omega (arith, c .before .before .before .before .before .before .before .list-path .ensures .1, c .before .before .before .before .if2 .left)) (c .before .before .before .before .before .before .before .list-path .ensures .0) refl (c .before .before .named .ensures) refl refl
+returns-3 c = explained-edge (whysOf (c .before .before .before .before .before .before .before .before .before .before .before .before .before .args .grade) (pathOf (c .before .before .before .before .before .before .before .before .before .before .before .before .before .args .path .now))) (c .before .before .before .before .before .before .before .before .before .before .before .before .before .args .edge) (c .before .before .before .before .before .before .before .before .before .before .before .before .before .args .one .now) (c .before .before .before .before .before .before .before .before .before .before .before .before .before .pre .2) (omega (arith, c .before .before .before .before .before .before .before .before .before .list-path .ensures .1, c .before .before .before .before .before .before .if2 .left)) (c .before .before .before .before .before .before .before .before .before .list-path .ensures .0) refl refl refl (c .before .before .named .ensures) refl refl
 
 pub explain-path-spec : {M : Type 1} → statement M
 explain-path-spec =
@@ -50,6 +56,8 @@ explain-path-spec =
     list-path-requires
     same-length
     returns-2
+    slice-read-start
+    slice-read-end
     slice-read-named
     named-requires
     slice-read-vertex

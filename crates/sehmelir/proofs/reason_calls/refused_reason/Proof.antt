@@ -9,7 +9,7 @@ code-requires : tie.Need-code-requires
 code-requires c κs = search needs
 
 returns : tie.Need-returns
-returns c = reason-code _ (c .code .ensures) refl refl refl refl refl
+returns c = reason-code _ (c .code .ensures) refl refl refl refl refl refl refl
 
 pub refused-reason-spec : {M : Type 1} → statement M
 refused-reason-spec = tie.close (tie.spec code-requires returns)
