@@ -4,21 +4,13 @@ use mathlib.Core.Bool.{Bool, true, false, _||_, _&&_}
 use mathlib.Core.Logic.{_⊎_, inl, inr, ⊎-elim}
 use Prim.Native.Nat.{ℕ, zero, suc, _+_, _≤_, _<_}
 use native.Mathlib.Omega.{arith}
-use borrow.Author.Tests.{ltb-true, ltb-false}
-use lib.Dec.{ltb}
 use Rattle.chunk_table.specs.Search.{anyBelow, firstFrom}
+pub use Rattle.dealing.proofs.Splits.{test, less-or, same-or}
 
 -- ---- tests
 
 pub not-both : {b : Bool} → b ≡ true → b ≡ false → ⊥
 not-both p q = let z : _≡_ {A = ℕ} 0 1 = ap (λ (b : Bool). elim b [ true ↦ 1 | false ↦ 0 ]) (sym q ∙ p) in omega arith
-
-pub test : (b : Bool) → (b ≡ true) ⊎ (b ≡ false)
-test true = inl refl
-test false = inr refl
-
-pub less-or : (a b : ℕ) → (a < b) ⊎ (b ≤ a)
-less-or a b = ⊎-elim (λ e. inl (ltb-true a b e)) (λ e. inr (ltb-false a b e)) (test (ltb a b))
 
 pub or-first : {a : Bool} (b : Bool) → a ≡ true → (a || b) ≡ true
 or-first b e = rw e
@@ -97,6 +89,3 @@ first-found p n j l h e = sym (first-only p 0 n n j (omega arith) (record { from
 
 pub first-past : (p : ℕ → Bool) (n : ℕ) → ((k : ℕ) → k < n → p k ≡ false) → n ≡ firstFrom p 0 n
 first-past p n h = sym (first-only p 0 n n n (omega arith) (record { from = omega arith; upto = omega arith; before = λ k a b. h k b; here = λ m. absurd (omega arith) }))
-
-pub same-or : (a b : ℕ) → (a ≡ b) ⊎ (a ≡ b → ⊥)
-same-or a b = ⊎-elim (λ h. inr (λ e. omega arith)) (λ h. ⊎-elim (λ k. inr (λ e. omega arith)) (λ k. inl (omega arith)) (less-or b a)) (less-or a b)

@@ -1,4 +1,5 @@
 -- What the contracts cite.
 pub mod Orders
 pub mod Search
+pub mod Stacks
 pub mod Tables

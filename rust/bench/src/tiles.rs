@@ -113,11 +113,10 @@ impl Contents {
     }
 
     /// The same with its entries in another order than their offsets.
-    fn shuffled(&self) -> Vec<u8> {
+    fn arranged(&self, arrange: fn(&mut [[u8; 12]])) -> Vec<u8> {
         let mut tile = self.filled();
-        let mut random = Random::new(10);
         let (entries, _) = tile[4..][..12 * ENTRIES].as_chunks_mut::<12>();
-        entries.sort_by_cached_key(|_| random.word());
+        arrange(entries);
         tile
     }
 
@@ -141,7 +140,7 @@ struct Work<'a> {
 }
 
 /// All that is timed of these contents.
-fn works(contents: &Contents) -> [Work<'_>; 5] {
+fn works(contents: &Contents) -> [Work<'_>; 6] {
     let keys = || contents.keys.iter().copied();
     let find_each = move |program: &Program, tile: &mut [u8]| {
         contents.sum(keys().map(|key| (program.find)(tile, key)))
@@ -164,8 +163,17 @@ fn works(contents: &Contents) -> [Work<'_>; 5] {
         ),
         work("find each", contents.filled(), ENTRIES, Box::new(find_each)),
         work(
+            "find each, offsets that fall",
+            contents.arranged(|entries| entries.reverse()),
+            ENTRIES,
+            Box::new(find_each),
+        ),
+        work(
             "find each, offsets in no order",
-            contents.shuffled(),
+            contents.arranged(|entries| {
+                let mut random = Random::new(10);
+                entries.sort_by_cached_key(|_| random.word());
+            }),
             ENTRIES,
             Box::new(find_each),
         ),
