@@ -1,31 +1,35 @@
 -- Own numbers taken fold by fold: their edges counted, and written. Assumes nothing.
 use mathlib.Core.Path.{_≡_, refl, sym, ap, _∙_}
+use mathlib.Core.Bool.{Bool, true}
 use mathlib.Core.List.{List, [], _∷_, _++_, append-assoc}
-use Prim.Native.Nat.{ℕ, zero, suc, _+_, _-_, _*_, _^_, _≤_, _<_}
+use Prim.Native.Nat.{ℕ, zero, suc, _+_, _-_, _*_, _≤_, _<_}
 use native.Mathlib.Omega.{arith}
-use lib.IntN.{ℤ}
+use lib.IntN.{ℤ, pos}
 use lib.ListN.{length, drop, length-append, take-append-drop}
 use lib.Seq.{drop-drop, drop-append-seam, length-take-le}
-use Rattle.runs.specs.Runs.{spread, Runs, Room, put}
+use lib.Signed.{ltZ}
+use Rattle.runs.specs.Runs.{spread, Runs, put}
 use Rattle.runs.proofs.Laws.{spread-append, runs-none, runs-then}
 use Rattle.runs.proofs.Onward.{Onward, onward-start, onward-step, onward-as, onward-done, onward-pos}
 use Rattle.runs.proofs.Written.{written-length, onward-length}
 use Rattle.plane.specs.Vectors.{Near}
 use Rattle.plane.specs.Directions.{UnitLong, rotatedOf, scaledOf}
 use Rattle.plane.specs.Swings.{swingOf, headingOf, Swings}
-use Rattle.plane.proofs.Products.{bits}
+use Rattle.plane.proofs.Products.{bits, back, short-fits}
+use Rattle.plane.proofs.Directions.{unit-short}
 use Rattle.plane.specs.declared.Point.{Point}
 use Rattle.plane.specs.declared.Vector.{Vector}
 use Rattle.plane.specs.declared.rotation.Swing.{Swing}
 use Rattle.turning.specs.Edges.{edgeNumbers, pointNumbers}
 use Rattle.turning.specs.Bounds.{Reach}
 use Rattle.leaps.specs.Bows.{bowEdges}
+use Rattle.half_turn.specs.Pairs.{axisOf, Axial}
 use Rattle.folds.specs.Folds.{foldEdges, foldNumbers, SoundBow, SoundFold, SoundFolds, Holds, RoomFor, Stands, Finds, sizeOf, Sizes, Unfolds}
 use Rattle.turning.specs.declared.Edge.{Edge}
 use Rattle.folds.specs.declared.Bow.{Bow}
 use Rattle.folds.specs.declared.Fold.{Fold}
 use Rattle.folds.specs.declared.Fold.the-variants.{Straight, Bent}
-use Rattle.turning.proofs.Limits.{point-is, point-reach, swing-told, swing-unit}
+use Rattle.turning.proofs.Limits.{radius-back, point-is, point-reach, swing-told, swing-unit}
 use Rattle.folds.proofs.ReadBack.{fold-size, folds-size, folds-some, same-folds, sizes-most, sizesOf}
 use Rattle.turning.proofs.Stored.{point-past}
 
@@ -271,11 +275,17 @@ module _ {t : Vector} {b : Bow} {l₀ : List ℤ} {a₀ k₀ : ℕ} {s₀ : Swin
         let x = bow-points k₀ t (b .centre) (b .radius) (b .to) (b .direction) (b .from) in
         record { out = rw (x, ← e) (r .out); pos = rw (x, ← e) (r .pos) }
 
--- ---- a fold's edges, by its case
+-- ---- an arc from due east or due west: y is the test of that
 
-pub one-room : {at : ℕ} (e : Edge) → at + 4 < 2 ^ 64 → Room edgeNumbers at (e ∷ [])
-unfolding spread edgeNumbers
-one-room e h = record { fits = h }
+pub bow-axial : (t : Vector) (b : Bow) {y : Bool} → SoundBow b → Axial (b .direction) y → y ≡ true
+    → bowEdges (b .turns) t (b .centre) (b .radius) (b .to) (b .direction) (b .from)
+    ≡ bowEdges (b .turns) t (b .centre) (bits (b .radius)) (b .to) (axisOf (ltZ (bits (b .direction .x)) (pos 0))) (b .from)
+bow-axial t b h g e =
+    let r = sym (radius-back (h .radius)) in
+    let d = g .axial e ∙ ap (λ (z : ℤ). axisOf (ltZ z (pos 0))) (sym (back (short-fits (unit-short (h .direction) .x)))) in
+    λ i. bowEdges (b .turns) t (b .centre) (r i) (b .to) (d i) (b .from)
+
+-- ---- a fold's edges, by its case
 
 pub width-straight : {f : Fold} {e : Edge} → f ≡ Straight e → 4 ≡ length (foldNumbers f)
 unfolding foldNumbers edgeNumbers

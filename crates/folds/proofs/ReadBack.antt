@@ -116,16 +116,6 @@ sizes-most (f ∷ fs) h = omega (arith, size-most f (h .0), sizes-most fs (h .1)
 
 -- ---- numbers read
 
--- a number of 32 bits, as the code has widened it
-pub widened : {z : ℤ} → SFits w32 z → SFits w64 z
-widened h = record { sfits = omega (arith, h .sfits) }
-
-pub widened-fits : {z : ℤ} → SFits w32 z → SFits w64 (toZ w32 (ofZ w32 z))
-widened-fits h = rw (toZ-ofZ {w = w32} h) (widened h)
-
-pub widened-back : {z : ℤ} → SFits w32 z → bits (toZ w32 (ofZ w32 z)) ≡ z
-widened-back h = rw (toZ-ofZ {w = w32} h) (back (widened h))
-
 pub point-read : (l : List ℤ) (j : ℕ) {x y : ℤ} → SFits w64 x → SFits w64 y → x ≡ getD l j (pos 0) → y ≡ getD l (j + 1) (pos 0) → record { x = bits x; y = bits y } ≡ pointIn l j
 unfolding pointIn
 point-read l j h k e f = λ i. record { x = (back h ∙ e) i; y = (back k ∙ f) i }

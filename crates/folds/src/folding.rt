@@ -15,7 +15,7 @@ use turning::turn::stops;
 ghost use mathlib.Core.Path.{_≡_};
 ghost use mathlib.Core.Bool.{true};
 ghost use mathlib.Core.List.{[], _∷_};
-ghost use Prim.Native.Nat.{_+_, _^_, _<_};
+ghost use Prim.Native.Nat.{_+_, _^_, _≤_, _<_};
 ghost use lib.ListN.{set};
 ghost use Rattle.whole.specs.Sizes.{Size};
 ghost use Rattle.runs.specs.Runs.{Runs, Room, put as putOf};
@@ -92,16 +92,12 @@ fn put_bow(out: &mut [i32], at: usize, b: Bow) -> usize
     at + 11
 }
 
-// An arc's turning, folded where that is less.
-pub fn fold(out: &mut [i32], at: usize, r: Turning, d: Vector, p: Point) -> usize
-    requires { ⌜ Turns r × UnitLong d × Near p ⌝ }
+// An arc whose rotations are counted and whose edges all have length, folded.
+pub fn fold_counted(out: &mut [i32], at: usize, r: Turning, d: Vector, p: Point, n: usize) -> usize
+    requires { ⌜ Turns r × UnitLong d × Near p × Bends r d p n × (2 ≤ n) ⌝ }
     requires { ⌜ Room edgeNumbers at (turnsOf 1536 r d p) ⌝ }
-    ensures { λ n. ⌜ Lays (r .step) true (now (out .entry)) at (turnsOf 1536 r d p) (now (out .exit)) n ⌝ }
+    ensures { λ m. ⌜ Lays (r .step) true (now (out .entry)) at (turnsOf 1536 r d p) (now (out .exit)) m ⌝ }
 {
-    let n = turned(r, d, p);
-    if n < 2 {
-        return turns(out, at, r, d, p);
-    }
     let c = r.centre;
     let q = r.to;
     let b = Bow {
@@ -113,4 +109,17 @@ pub fn fold(out: &mut [i32], at: usize, r: Turning, d: Vector, p: Point) -> usiz
         to: q,
     };
     put_bow(out, at, b)
+}
+
+// An arc's turning, folded where that is less.
+pub fn fold(out: &mut [i32], at: usize, r: Turning, d: Vector, p: Point) -> usize
+    requires { ⌜ Turns r × UnitLong d × Near p ⌝ }
+    requires { ⌜ Room edgeNumbers at (turnsOf 1536 r d p) ⌝ }
+    ensures { λ n. ⌜ Lays (r .step) true (now (out .entry)) at (turnsOf 1536 r d p) (now (out .exit)) n ⌝ }
+{
+    let n = turned(r, d, p);
+    if n < 2 {
+        return turns(out, at, r, d, p);
+    }
+    fold_counted(out, at, r, d, p, n)
 }

@@ -2,6 +2,9 @@
 use crate::Bow;
 use crate::Fold;
 use crate::folding::MARK;
+use half_turn::finest::axial;
+use half_turn::finest::finest;
+use half_turn::half_bow;
 use plane::Point;
 use plane::Vector;
 use plane::rotation::Swing;
@@ -9,7 +12,9 @@ use plane::rotation::heading;
 use plane::rotation::landed;
 use plane::rotation::swung;
 use turning::Edge;
+use turning::Turning;
 use turning::edges::narrow;
+use turning::edges::number_at;
 use turning::edges::place;
 use turning::edges::store;
 ghost use mathlib.Core.Path.{_≡_};
@@ -25,14 +30,6 @@ ghost use Rattle.turning.specs.Edges.{edgeNumbers, pointNumbers};
 ghost use Rattle.turning.specs.Bounds.{Centre, Radius};
 ghost use Rattle.leaps.specs.Bows.{bowEdges};
 ghost use Rattle.folds.specs.Folds.{foldEdges, foldNumbers, sizeOf, pointIn, directionIn, SoundBow, SoundFold, Holds, RoomFor, Stands, Finds, StandsBent, FindsBent, Sizes, Unfolds};
-
-// The number at j, with more room.
-fn number_at(own: &[i32], j: usize) -> i64
-    requires { ⌜ j < length (now own) ⌝ }
-    ensures { λ z. ⌜ z ≡ getD (now (own .entry)) j (pos 0) ⌝ }
-{
-    own[j] as i64
-}
 
 // The two numbers at j as a point.
 fn point_in(own: &[i32], j: usize) -> Point
@@ -167,6 +164,29 @@ fn bow(out: &mut [i32], at: usize, t: Vector, b: Bow) -> usize
     place_point(out, n, b.to)
 }
 
+// An arc's edges, all of them inside the room: along the table, where that has the arc's directions.
+fn bent(out: &mut [i32], at: usize, t: Vector, b: Bow) -> usize
+    requires { ⌜ UnitLong t × SoundBow b × (at + 4 * b .turns + 4 ≤ length (now out)) ⌝ }
+    ensures { λ n. ⌜ Runs put edgeNumbers (now (out .entry)) at (bowEdges (b .turns) t (b .centre) (b .radius) (b .to) (b .direction) (b .from)) (now (out .exit)) n ⌝ }
+{
+    let d = b.direction;
+    if axial(d) && finest(t) && b.turns <= 402 {
+        let c = b.centre;
+        let p = b.from;
+        let q = b.to;
+        // the count says where it stops: no direction of its end is needed
+        let r = Turning {
+            step: t,
+            centre: c,
+            radius: b.radius,
+            to: q,
+            toward: d,
+        };
+        return half_bow(out, at, b.turns, r, p, d.x < 0);
+    }
+    bow(out, at, t, b)
+}
+
 // A fold's edges, all of them inside the room.
 fn unfold_one(out: &mut [i32], at: usize, t: Vector, f: Fold) -> usize
     requires { ⌜ UnitLong t × SoundFold f × (at + sizeOf f ≤ length (now out)) ⌝ }
@@ -174,7 +194,7 @@ fn unfold_one(out: &mut [i32], at: usize, t: Vector, f: Fold) -> usize
 {
     match f {
         Fold::Straight(e) => store(out, at, e),
-        Fold::Bent(b) => bow(out, at, t, b),
+        Fold::Bent(b) => bent(out, at, t, b),
     }
 }
 

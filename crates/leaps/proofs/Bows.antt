@@ -60,7 +60,7 @@ module _ (r : Turning) (ht : UnitLong (r .step))
       ∙ ap (λ k. record { a = placeOf r d; b = placeOf r next } ∷ turnsOf k r next (placeOf r next)) i
 
   -- then one edge to the end
-  goes-misses : (n m : ℕ) (d : Vector) → UnitLong d → Goes n (r .step) (r .toward) d → 7 * 2 ^ 27 * (7 * 2 ^ 27) ≤ squareOf (turnedOf n (r .step) d)
+  pub goes-misses : (n m : ℕ) (d : Vector) → UnitLong d → Goes n (r .step) (r .toward) d → 7 * 2 ^ 27 * (7 * 2 ^ 27) ≤ squareOf (turnedOf n (r .step) d)
       → turnsOf m r (turnedOf n (r .step) d) (placeOf r (turnedOf n (r .step) d)) ≡ record { a = placeOf r (turnedOf n (r .step) d); b = r .to } ∷ []
       → turnsOf (n + m) r d (placeOf r d) ≡ bowOf n r d (placeOf r d)
   unfolding turnedOf Goes bowEdges
@@ -148,7 +148,7 @@ bends-count {r} {d} {n} b h =
 
 -- ---- one rotation before
 
-first-some : (r : Turning) (d : Vector) (p : Point) (n : ℕ) {t : Vector} {q : Point} {x : Bool} → t ≡ rotatedOf (r .step) d → x ≡ stopsOf d t (r .toward) → x ≡ false
+pub first-some : (r : Turning) (d : Vector) (p : Point) (n : ℕ) {t : Vector} {q : Point} {x : Bool} → t ≡ rotatedOf (r .step) d → x ≡ stopsOf d t (r .toward) → x ≡ false
     → q ≡ placeOf r t → samePoint p q ≡ false → turnsOf 1535 r t (placeOf r t) ≡ bowOf n r t (placeOf r t) → turnsOf 1536 r d p ≡ bowOf (suc n) r d p
 unfolding bowEdges
 first-some r d p n {t} {q} e f g h k b =

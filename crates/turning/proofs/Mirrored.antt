@@ -50,7 +50,7 @@ scaled-minus d r = ap (λ (z : ℤ). roundedOf z (2 ^ 30)) (neg-mulℤ d r) ∙ 
 
 -- ---- half a turn of a vector, and of a point about a centre
 
-abbrev minus : Vector → Vector
+abbrev pub minus : Vector → Vector
 minus v = record { x = negℤ (v .x); y = negℤ (v .y) }
 
 abbrev across : Point → Point → Point
@@ -74,7 +74,7 @@ quot-sub a b x y = ap (λ (z : ℤ). quotZ z (pos (2 ^ 30))) ((λ i. mul-negℤ 
 quot-add : (a b x y : ℤ) → quotZ (a *ℤ negℤ x +ℤ b *ℤ negℤ y) (pos (2 ^ 30)) ≡ negℤ (quotZ (a *ℤ x +ℤ b *ℤ y) (pos (2 ^ 30)))
 quot-add a b x y = ap (λ (z : ℤ). quotZ z (pos (2 ^ 30))) ((λ i. mul-negℤ a x i +ℤ mul-negℤ b y i) ∙ sym (negℤ-+ℤ (a *ℤ x) (b *ℤ y))) ∙ quot-minus (a *ℤ x +ℤ b *ℤ y)
 
-rotated-minus : (t v : Vector) → rotatedOf t (minus v) ≡ minus (rotatedOf t v)
+pub rotated-minus : (t v : Vector) → rotatedOf t (minus v) ≡ minus (rotatedOf t v)
 unfolding rotatedOf
 rotated-minus t v = λ i. record { x = quot-sub (t .x) (t .y) (v .x) (v .y) i; y = quot-add (t .y) (t .x) (v .x) (v .y) i }
 

@@ -94,7 +94,7 @@ same-is (pos m) (negsuc n) e = absurd (true≢false (sym e))
 same-is (negsuc m) (pos n) e = absurd (true≢false (sym e))
 same-is (negsuc m) (negsuc n) e = ap negsuc (eqb-true m n e)
 
-both-true : (a b : Bool) → (a && b) ≡ true → (a ≡ true) × (b ≡ true)
+pub both-true : (a b : Bool) → (a && b) ≡ true → (a ≡ true) × (b ≡ true)
 both-true true b e = (refl, e)
 both-true false b e = absurd (true≢false (sym e))
 

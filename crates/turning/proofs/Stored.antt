@@ -7,8 +7,8 @@ use native.Mathlib.Numerals.{add-one, add-two, add-three}
 use native.Mathlib.Omega.{arith}
 use lib.ListN.{length, set}
 use lib.IntN.{ℤ}
-use mir.Syntax.{w32}
-use mir.Val.{toZ, ofZ}
+use mir.Syntax.{w32, w64}
+use mir.Val.{SFits, toZ, ofZ}
 use mir.Facts.{toZ-ofZ}
 use Rattle.whole.specs.Sizes.{Size}
 use Rattle.whole.proofs.Sizes.{size-fits}
@@ -56,6 +56,10 @@ pub room-one : {at : ℕ} (e : Edge) → Room edgeNumbers at (e ∷ []) → at +
 unfolding spread edgeNumbers
 room-one e h = h .fits
 
+pub one-room : {at : ℕ} (e : Edge) → at + 4 < 2 ^ 64 → Room edgeNumbers at (e ∷ [])
+unfolding spread edgeNumbers
+one-room e h = record { fits = h }
+
 -- a coordinate as an i32, by its bits
 abbrev pub number : ℤ → ℤ
 number r = toZ w32 (ofZ w32 r)
@@ -84,3 +88,15 @@ point-stored {at = at} p h ex ey q r = record { out = cc (add-one at, narrowed (
 pub point-past : {l₀ l₁ : List ℤ} {at n : ℕ} {p : Point} → Runs put pointNumbers l₀ at (p ∷ []) l₁ n → n ≡ at + 2
 unfolding spread pointNumbers
 point-past h = h .pos
+
+-- ---- numbers read
+
+-- a number of 32 bits, as the code has widened it
+pub widened : {z : ℤ} → SFits w32 z → SFits w64 z
+widened h = record { sfits = omega (arith, h .sfits) }
+
+pub widened-fits : {z : ℤ} → SFits w32 z → SFits w64 (toZ w32 (ofZ w32 z))
+widened-fits h = rw (toZ-ofZ {w = w32} h) (widened h)
+
+pub widened-back : {z : ℤ} → SFits w32 z → bits (toZ w32 (ofZ w32 z)) ≡ z
+widened-back h = rw (toZ-ofZ {w = w32} h) (back (widened h))

@@ -6,7 +6,8 @@ use plane::vectors::same;
 ghost use mathlib.Core.Path.{_≡_};
 ghost use mathlib.Core.List.{[], _∷_};
 ghost use Prim.Native.Nat.{_+_, _^_, _<_};
-ghost use lib.ListN.{length, set};
+ghost use lib.IntN.{pos};
+ghost use lib.ListN.{length, set, getD};
 ghost use Rattle.whole.specs.Sizes.{Size};
 ghost use Rattle.runs.specs.Runs.{Runs, Room, put as putOf};
 ghost use Rattle.plane.specs.Vectors.{Near};
@@ -90,4 +91,12 @@ pub fn edge(out: &mut [i32], at: usize, p: Point, q: Point) -> usize
         return at;
     }
     emit(out, at, Edge { a: p, b: q })
+}
+
+// The number at j, with more room.
+pub fn number_at(own: &[i32], j: usize) -> i64
+    requires { ⌜ j < length (now own) ⌝ }
+    ensures { λ z. ⌜ z ≡ getD (now (own .entry)) j (pos 0) ⌝ }
+{
+    own[j] as i64
 }

@@ -42,6 +42,13 @@ impl Input {
         Input::new(format!("{count} circles"), vertices)
     }
 
+    /// Circles about one point, the largest first: below a radius of 512 some
+    /// edges at the finest grade have no length.
+    pub fn small_circles(count: usize) -> Input {
+        let vertices = (0..count as i32).map(|place| [0, 0, 1 + count as i32 - place]);
+        Input::new(format!("{count} small circles"), vertices)
+    }
+
     pub fn vertices(&self) -> usize {
         self.path.len() / 3
     }

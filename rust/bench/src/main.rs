@@ -1,6 +1,7 @@
 //! Times the proved library beside `plain`, in one process, on the same
 //! inputs.
 
+mod circles;
 mod clock;
 mod inputs;
 mod programs;
@@ -19,13 +20,16 @@ use table::{Layout, Table};
 const USAGE: &str = "\
 bench [--markdown] [CALL...]
   --markdown   the table for docs/SPEED.md
-  CALL         draw, keep, read, replace, tiles or records: times only these";
+  CALL         draw, keep, read, replace, circles, tiles or records: times only these";
 
 /// The name of what is timed of tiles.
 const TILES: &str = "tiles";
 
 /// The name of what is timed of vertex records, beside the library itself.
 const RECORDS: &str = "records";
+
+/// The name of what is timed of circles at the finest grade.
+const CIRCLES: &str = "circles";
 
 const GRADES: [u32; 3] = [1, 4, 8];
 
@@ -43,6 +47,7 @@ fn main() -> ExitCode {
     let all = names.is_empty();
     let (tiles, names): (Vec<&str>, Vec<&str>) = names.iter().partition(|&&name| name == TILES);
     let (records, names): (Vec<&str>, Vec<&str>) = names.iter().partition(|&&name| name == RECORDS);
+    let (circles, names): (Vec<&str>, Vec<&str>) = names.iter().partition(|&&name| name == CIRCLES);
     let (Some(layout), Some(calls)) = (layout, calls(&names)) else {
         eprintln!("{USAGE}");
         return ExitCode::from(2);
@@ -55,6 +60,10 @@ fn main() -> ExitCode {
     println!();
     if all || !names.is_empty() {
         print!("{}", timed(&calls).laid_out(layout));
+        println!();
+    }
+    if all || !circles.is_empty() {
+        print!("{}", circles::timed().laid_out(layout));
         println!();
     }
     if all || !tiles.is_empty() {

@@ -80,10 +80,12 @@ impl Rounds<'_> {
 /// How long one run of something takes.
 pub type Timing = dyn Fn(&mut dyn FnMut() -> usize) -> Duration;
 
-/// The best times of two programs by turns, in nanoseconds: `round` times one
+/// The best times of some programs by turns, in nanoseconds: `round` times one
 /// run of each.
-pub fn best_by_turns(mut round: impl FnMut(&Timing) -> [Duration; 2]) -> [f64; 2] {
-    let mut best = [Duration::MAX; 2];
+pub fn best_by_turns<const PROGRAMS: usize>(
+    mut round: impl FnMut(&Timing) -> [Duration; PROGRAMS],
+) -> [f64; PROGRAMS] {
+    let mut best = [Duration::MAX; PROGRAMS];
     let start = Instant::now();
     let mut runs = 0;
     while runs < LEAST_RUNS || start.elapsed() < LEAST_TIME {

@@ -16,6 +16,8 @@
 //! * [`kerbs`] holds document 02's request 3, "Kerbs of one width"
 //! * [`chunks`] holds document 02's request 8, "Many outlines in one chunk"
 //! * [`closing`] holds document 02's request 12, "Boundaries that close"
+//! * [`ready`] holds document 02's request 2, "Circles from a ready table", for
+//!   timing alone
 //! * [`random`] holds the generator behind the tests and the lists of cases
 
 pub mod arcs;
@@ -29,4 +31,5 @@ pub mod numbers;
 pub mod oldest;
 pub mod outline;
 pub mod random;
+pub mod ready;
 pub mod reasons;

@@ -1,9 +1,8 @@
--- `folds::folding::fold` meets its contract: an arc of three edges or more stands as eleven numbers. Assumes nothing.
+-- `folds::folding::fold` meets its contract: an arc of three edges or more is folded, any other stands edge by edge. Assumes nothing.
 use borrow.Author.Needs.{needs}
 use native.Mathlib.Omega.{arith}
 use Rattle.turning.proofs.Reach.{turns-reach}
 use Rattle.folds.proofs.Laid.{lays-runs}
-use Rattle.folds.proofs.Eleven.{room-bow, bow-sound, lays-bow}
 use Rattle.folds.proofs.folding.fold.Statement.{statement}
 use Rattle.folds.proofs.folding.fold.Tie as tie
 
@@ -17,16 +16,16 @@ same-length : tie.Need-same-length
 same-length c = search needs
 
 returns : tie.Need-returns
-returns c = lays-runs (turns-reach 1536 _ _ _ (c .before .before .before .before .before .pre .0 .0) (c .before .before .before .before .before .pre .0 .1) (c .before .before .before .before .before .pre .0 .2)) (c .before .turns .ensures)
+returns c = let h = c .before .before .before .before .before .pre .0 in lays-runs (turns-reach 1536 _ _ _ (h .0) (h .1) (h .2)) (c .before .turns .ensures)
 
-put-bow-requires : tie.Need-put-bow-requires
-put-bow-requires c κs = (bow-sound (omega (arith, c .before .before .before .before .if1 .left)) (c .before .before .before .before .before .before .pre .0 .0) (c .before .before .before .before .before .before .pre .0 .1) (c .before .before .before .before .before .before .pre .0 .2) (c .before .before .before .before .before .turned .ensures), room-bow (omega (arith, c .before .before .before .before .if1 .left)) (c .before .before .before .before .before .turned .ensures) (c .before .before .before .before .before .before .pre .1))
+fold-counted-requires : tie.Need-fold-counted-requires
+fold-counted-requires c κs = let h = c .before .before .before .pre .0 in ((h .0, h .1, h .2, c .before .before .turned .ensures, omega (arith, c .before .if1 .left)), c .before .before .before .pre .1)
 
 same-length-2 : tie.Need-same-length-2
 same-length-2 c = search needs
 
 returns-2 : tie.Need-returns-2
-returns-2 c = lays-bow (omega (arith, c .before .before .before .before .before .before .if1 .left)) (c .before .before .before .before .before .before .before .before .pre .0 .0) (c .before .before .before .before .before .before .before .before .pre .0 .1) (c .before .before .before .before .before .before .before .before .pre .0 .2) (c .before .before .before .before .before .before .before .turned .ensures) (c .before .put-bow .ensures)
+returns-2 c = search needs
 
 pub fold-spec : {M : Type 1} → statement M
 fold-spec =
@@ -36,6 +35,6 @@ fold-spec =
     turns-requires
     same-length
     returns
-    put-bow-requires
+    fold-counted-requires
     same-length-2
     returns-2)

@@ -2,7 +2,8 @@
 use borrow.Author.Needs.{needs}
 use native.Mathlib.Omega.{arith}
 use Rattle.runs.proofs.Laws.{runs-as}
-use Rattle.folds.proofs.FoldByFold.{one-room, size-straight, size-bent, straight-sound, bent-sound, straight-edge, bent-edges}
+use Rattle.turning.proofs.Stored.{one-room}
+use Rattle.folds.proofs.FoldByFold.{size-straight, size-bent, straight-sound, bent-sound, straight-edge, bent-edges}
 use Rattle.folds.proofs.unfolding.unfold_one.Statement.{statement}
 use Rattle.folds.proofs.unfolding.unfold_one.Tie as tie
 
@@ -17,8 +18,8 @@ store-requires c κs =
 enum-known-f-2 : tie.Need-enum-known-f-2
 enum-known-f-2 c = search needs
 
-bow-requires : tie.Need-bow-requires
-bow-requires c κs =
+bent-requires : tie.Need-bent-requires
+bent-requires c κs =
     let e = c .before .before .f2 .given .1 in
     (c .before .before .before .before .pre .0, bent-sound e (c .before .before .before .before .pre .1), omega (arith, size-bent e, c .before .before .before .before .pre .2))
 
@@ -32,7 +33,7 @@ same-length-2 : tie.Need-same-length-2
 same-length-2 c = search needs
 
 returns-2 : tie.Need-returns-2
-returns-2 c = runs-as (bent-edges _ (c .before .before .before .before .f2 .given .1)) (c .before .bow .ensures)
+returns-2 c = runs-as (bent-edges _ (c .before .before .before .before .f2 .given .1)) (c .before .bent .ensures)
 
 pub unfold-one-spec : {M : Type 1} → statement M
 unfold-one-spec =
@@ -41,7 +42,7 @@ unfold-one-spec =
     enum-known-f
     store-requires
     enum-known-f-2
-    bow-requires
+    bent-requires
     same-length
     returns
     same-length-2

@@ -1,10 +1,10 @@
--- `folds::unfolding::number_at` meets its contract: a number of 32 bits fits 64. Assumes nothing.
+-- `turning::edges::number_at` meets its contract: a number of 32 bits fits 64. Assumes nothing.
 use borrow.Author.Needs.{needs}
 use lib.IntN.{pos}
 use lib.ListN.{getD}
-use Rattle.folds.proofs.ReadBack.{widened-fits, widened-back}
-use Rattle.folds.proofs.unfolding.number_at.Statement.{statement}
-use Rattle.folds.proofs.unfolding.number_at.Tie as tie
+use Rattle.turning.proofs.Stored.{widened-fits, widened-back}
+use Rattle.turning.proofs.edges.number_at.Statement.{statement}
+use Rattle.turning.proofs.edges.number_at.Tie as tie
 
 mul-result : tie.Need-mul-result
 mul-result c = search needs

@@ -1,0 +1,4 @@
+-- The crate's own laws.
+pub mod Rotations
+pub mod Halves
+pub mod Told

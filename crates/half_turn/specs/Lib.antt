@@ -1,0 +1,2 @@
+-- Document 02, request 2: for speed alone.
+pub mod Pairs
