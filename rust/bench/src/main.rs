@@ -1,6 +1,7 @@
 //! Times the proved library beside `plain`, in one process, on the same
 //! inputs.
 
+mod archive;
 mod circles;
 mod clock;
 mod inputs;
@@ -20,7 +21,9 @@ use table::{Layout, Table};
 const USAGE: &str = "\
 bench [--markdown] [CALL...]
   --markdown   the table for docs/SPEED.md
-  CALL         draw, keep, read, replace, circles, tiles or records: times only these";
+  CALL         draw, keep, read, replace, circles, tiles or records: times only these
+bench archive DIRECTORY GRADE
+                the keep calls alone of every line of an old archive, on all cores";
 
 /// The name of what is timed of tiles.
 const TILES: &str = "tiles";
@@ -31,10 +34,16 @@ const RECORDS: &str = "records";
 /// The name of what is timed of circles at the finest grade.
 const CIRCLES: &str = "circles";
 
+/// The word for the keep calls of an archive.
+const ARCHIVE: &str = "archive";
+
 const GRADES: [u32; 3] = [1, 4, 8];
 
 fn main() -> ExitCode {
     let words: Vec<String> = std::env::args().skip(1).collect();
+    if let [ARCHIVE, directory, grade] = words.iter().map(String::as_str).collect::<Vec<_>>()[..] {
+        return of_archive(directory, grade);
+    }
     let (flags, names): (Vec<&str>, Vec<&str>) = words
         .iter()
         .map(String::as_str)
@@ -74,6 +83,24 @@ fn main() -> ExitCode {
         print!("{}", records::timed().laid_out(layout));
     }
     ExitCode::SUCCESS
+}
+
+/// Times the keep calls of an archive.
+fn of_archive(directory: &str, grade: &str) -> ExitCode {
+    let Ok(grade) = grade.parse() else {
+        eprintln!("{USAGE}");
+        return ExitCode::from(2);
+    };
+    match archive::timed(directory.as_ref(), grade) {
+        Ok(told) => {
+            println!("{told}");
+            ExitCode::SUCCESS
+        }
+        Err(error) => {
+            eprintln!("{directory}: {error}");
+            ExitCode::FAILURE
+        }
+    }
 }
 
 /// The calls of these names, or all of them.

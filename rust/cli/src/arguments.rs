@@ -2,6 +2,7 @@
 
 use crate::destination::Destination;
 use crate::kerbs::Styling;
+use crate::migration::Migrating;
 use crate::reasons::Explaining;
 use crate::tile::TileCommand;
 use clap::{Args, Parser, Subcommand};
@@ -16,10 +17,11 @@ numbers a line: x y. Bytes that follow a sheet are passed over. A file of the ol
 bytes a vertex: x, y and full width in millimetres, as little-endian 32-bit floats.
 
 Input comes from standard input, or from the file that is named. The result goes to standard
-output, or with -o to a file, which is written whole or not at all. A tile that a command of chunk
+output, or with -o to a file, which is written whole or not at all. A tile that a command of tile
 changes is replaced in the same way.
 
-Exit status: 0 and the result; or 1, why on standard error, and nothing on standard output.";
+Exit status: 0 and the result; or 1, why on standard error, and nothing on standard output. Of
+migrate: 0 where every file was taken, 1 where some were refused, 2 where it failed.";
 
 /// Lines kept as points with a radius at each, and the boundary drawn about
 /// them
@@ -56,8 +58,10 @@ pub enum Command {
     /// A path as a file of the oldest chunks
     Export(Exporting),
     /// Many sheets in one file, a tile, each under a key
-    #[command(subcommand)]
-    Chunk(TileCommand),
+    #[command(subcommand, visible_alias = "chunk")]
+    Tile(TileCommand),
+    /// An archive of old chunks as tiles of sheets, with a manifest; or, with --verify, whether it is one
+    Migrate(Migrating),
     /// A hedge of nine hundred points, one gate post moved; writes hedge.svg here
     Demo,
     /// Completions of this command for a shell

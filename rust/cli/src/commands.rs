@@ -10,6 +10,7 @@ use crate::demo;
 use crate::destination::Destination;
 use crate::failure::Failure;
 use crate::kerbs;
+use crate::migration;
 use crate::oldest;
 use crate::path_text::{numbers, pairs, rows};
 use crate::picture;
@@ -38,7 +39,8 @@ pub fn run(command: Command) -> Result<(), Failure> {
         Command::Picture(asked) => show(asked),
         Command::Import(asked) => import(asked),
         Command::Export(asked) => export(asked),
-        Command::Chunk(asked) => tile::run(asked),
+        Command::Tile(asked) => tile::run(asked),
+        Command::Migrate(asked) => migration::run(asked),
         Command::Demo => demo::run(),
         Command::Completions { shell } => complete(shell),
     }

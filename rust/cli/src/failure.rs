@@ -1,6 +1,7 @@
 //! Why a command gives no result, in the words that go to standard error.
 
 use sehmelir::{Refusal, Untaken};
+use std::ffi::OsString;
 use std::fmt::{self, Display, Formatter};
 use std::io;
 use std::path::{Path, PathBuf};
@@ -42,12 +43,48 @@ pub enum Failure {
     Fault(String),
     /// One of these, of this file.
     Of(PathBuf, Box<Failure>),
+    /// A file of the archive is none, but a directory or the like.
+    NoFile,
+    /// A file's name has no number that could be its key.
+    NoNumber,
+    /// A file's name has this number, and so has the name of another.
+    NumberTwice(u32),
+    /// An outline has so many bytes, and a tile has room for so many.
+    LongerThanTile(usize, usize),
+    /// The directory of the tiles holds what no run put there.
+    Foreign,
+    /// Another run is at work on the directory of the tiles.
+    Busy,
+    /// The run that the directory of the tiles is of was not finished.
+    Unfinished,
+    /// The directory of the tiles is of a run with these settings, and not these.
+    Settings(String, String),
+    /// The archive's files are not those of the run: this is the first.
+    OtherFiles(OsString),
+    /// The manifest is not one.
+    NoManifest,
+    /// A tile of a finished migration is not there, or not as long as it was.
+    NotWhole,
+    /// So many files of the archive are refused, and this manifest says why.
+    Left(usize, PathBuf),
+    /// Sheets of a tile are not sound, each told on a line.
+    Unsound(String),
+    /// A migration failed.
+    Run(Box<Failure>),
 }
 
 impl Failure {
     /// The same, of a file.
     pub fn of(self, file: &Path) -> Failure {
         Failure::Of(file.to_owned(), Box::new(self))
+    }
+
+    /// The exit status: 2 where a migration failed, else 1.
+    pub fn status(&self) -> u8 {
+        match self {
+            Failure::Run(_) => 2,
+            _ => 1,
+        }
     }
 }
 
@@ -113,6 +150,56 @@ impl Display for Failure {
             }
             Failure::Fault(report) => formatter.write_str(report),
             Failure::Of(file, failure) => write!(formatter, "{}: {failure}", file.display()),
+            Failure::NoFile => write!(formatter, "refused: this is no file"),
+            Failure::NoNumber => write!(
+                formatter,
+                "refused: the name has no number of 0 to 4294967295 that could be the key; \
+                 --keys running needs none"
+            ),
+            Failure::NumberTwice(key) => write!(
+                formatter,
+                "refused with reply 15: the number of the name, {key}, is that of the file before it too"
+            ),
+            Failure::LongerThanTile(bytes, most) => write!(
+                formatter,
+                "refused with reply 5: the outline has {bytes} bytes, and a tile has room for {most}"
+            ),
+            Failure::Foreign => write!(
+                formatter,
+                "refused: the directory is not empty, and not of a migration"
+            ),
+            Failure::Busy => write!(formatter, "refused: another migration is at work there"),
+            Failure::Unfinished => write!(formatter, "refused: the migration was not finished"),
+            Failure::Settings(there, asked) => {
+                let [there, asked] = [there, asked].map(|told| told.trim_end().replace('\n', ", "));
+                write!(
+                    formatter,
+                    "refused: the migration there has other settings: {there}; asked for: {asked}"
+                )
+            }
+            Failure::OtherFiles(name) => write!(
+                formatter,
+                "refused: the archive's files are not those of the migration there; \
+                 the first that is not in both is {}",
+                name.display()
+            ),
+            Failure::NoManifest => write!(formatter, "refused: this is no manifest"),
+            Failure::NotWhole => write!(
+                formatter,
+                "refused: the tile is not there, or not as long as what the manifest says of it"
+            ),
+            Failure::Left(1, manifest) => write!(
+                formatter,
+                "1 file is refused, and {} says why",
+                manifest.display()
+            ),
+            Failure::Left(count, manifest) => write!(
+                formatter,
+                "{count} files are refused, and {} says why of each",
+                manifest.display()
+            ),
+            Failure::Unsound(told) => formatter.write_str(told),
+            Failure::Run(failure) => failure.fmt(formatter),
         }
     }
 }

@@ -157,7 +157,7 @@ pub struct Header {
     pub grade: u32,
     pub edges: usize,
     layout: Layout,
-    vertices: usize,
+    pub vertices: usize,
 }
 
 impl Header {

@@ -5,7 +5,7 @@ use std::panic::resume_unwind;
 use std::thread;
 
 /// What a command runs on, with room to spare.
-const ENOUGH: usize = sehmelir::STACK + (3 << 20);
+pub const ENOUGH: usize = sehmelir::STACK + (3 << 20);
 
 /// Does the work where there is stack enough: here, if this thread's limit, which
 /// its user may have set, allows it; else on a thread that is given as much.

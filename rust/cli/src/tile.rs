@@ -4,11 +4,15 @@
 use crate::destination::Destination;
 use crate::failure::Failure;
 use crate::memory::zeros;
+use crate::picture;
+use crate::ranges::{counted, number};
+use crate::sheet::{Header, Sheet};
 use crate::source::Source;
 use crate::whole_file;
 use crate::words::whole;
 use clap::{Args, Subcommand};
 use sehmelir::{Chunk, Refusal};
+use std::ops::Range;
 use std::path::{Path, PathBuf};
 
 /// What can be done with a tile.
@@ -24,8 +28,12 @@ pub enum TileCommand {
     Remove(Keyed),
     /// Move a tile's sheets together, so that what is free is one gap at the end
     Compact(Whole),
-    /// The sheets of a tile, one a line: key, offset, length
+    /// The sheets of a tile, one a line: key, offset, length, vertices, edges, grade
     List(Listing),
+    /// A picture (SVG) of all sheets of a tile on one page
+    Picture(Listing),
+    /// Check every sheet of a tile
+    Check(Listing),
 }
 
 /// What make takes.
@@ -79,7 +87,7 @@ pub struct Whole {
     pub tile: PathBuf,
 }
 
-/// What list takes.
+/// What list, picture and check take.
 #[derive(Args)]
 pub struct Listing {
     /// The tile
@@ -96,7 +104,9 @@ pub fn run(command: TileCommand) -> Result<(), Failure> {
         TileCommand::Find(asked) => find(asked),
         TileCommand::Remove(asked) => remove(asked),
         TileCommand::Compact(asked) => compact(asked),
-        TileCommand::List(asked) => list(asked),
+        TileCommand::List(asked) => told(asked, |tile| listed(tile).map(String::into_bytes)),
+        TileCommand::Picture(asked) => told(asked, |tile| pictured(tile).map(String::into_bytes)),
+        TileCommand::Check(asked) => told(asked, |tile| checked(tile).map(String::into_bytes)),
     }
 }
 
@@ -159,27 +169,113 @@ fn compact(asked: Whole) -> Result<(), Failure> {
     put(&asked.tile, tile.bytes())
 }
 
-/// The sheets of a tile.
-fn list(asked: Listing) -> Result<(), Failure> {
-    let text = Source::named(Some(asked.tile)).take(|tile| listed(&tile))?;
-    asked.destination.write(text.as_bytes())
+/// Writes what is told of a tile.
+fn told(
+    asked: Listing,
+    tell: impl FnOnce(&[u8]) -> Result<Vec<u8>, Failure>,
+) -> Result<(), Failure> {
+    let text = Source::named(Some(asked.tile)).take(|tile| tell(&tile))?;
+    asked.destination.write(&text)
 }
 
-/// The entries in use of a tile whose table is not damaged, in their order.
-fn listed(tile: &[u8]) -> Result<String, Failure> {
+/// An entry in use of a tile's table.
+#[derive(Clone, Copy, Debug, PartialEq)]
+pub struct Entry {
+    pub key: u32,
+    pub offset: usize,
+    pub length: usize,
+}
+
+impl Entry {
+    /// Where its sheet stands in the tile.
+    pub fn range(self) -> Range<usize> {
+        self.offset..self.offset + self.length
+    }
+
+    /// Its words in the table.
+    pub fn row(self) -> [u8; 12] {
+        let words = [self.key, self.offset as u32, self.length as u32];
+        let mut row = [0; 12];
+        for (place, word) in row.as_chunks_mut::<4>().0.iter_mut().zip(words) {
+            *place = word.to_le_bytes();
+        }
+        row
+    }
+}
+
+/// The entries in use of a tile, in their order, if its table is not damaged.
+pub fn entries(tile: &[u8]) -> Result<Vec<Entry>, Failure> {
     match Chunk::over(tile).find(0) {
         Ok(_) | Err(Refusal::KeyMissing(_)) => {}
         Err(refusal) => return Err(refusal.into()),
     }
     let (words, _) = tile.as_chunks::<4>();
-    let (count, entries) = words.split_first().unwrap_or((&[0; 4], &[]));
-    let (entries, _) = entries.as_chunks::<3>();
-    let line = |entry: &[[u8; 4]; 3]| match entry.map(u32::from_le_bytes) {
-        [_, _, 0] => String::new(),
-        [key, offset, length] => format!("{key} {offset} {length}\n"),
-    };
+    let (count, rows) = words.split_first().unwrap_or((&[0; 4], &[]));
+    let (rows, _) = rows.as_chunks::<3>();
     let count = u32::from_le_bytes(*count) as usize;
-    Ok(entries.iter().take(count).map(line).collect())
+    let entries = rows.iter().take(count).map(|row| {
+        let [key, offset, length] = row.map(u32::from_le_bytes);
+        Entry {
+            key,
+            offset: offset as usize,
+            length: length as usize,
+        }
+    });
+    Ok(entries.filter(|entry| entry.length > 0).collect())
+}
+
+/// The sheets of a tile, a line each: where they stand, and what they say of
+/// themselves, which is not checked.
+fn listed(tile: &[u8]) -> Result<String, Failure> {
+    let line = |entry: Entry| {
+        let Entry {
+            key,
+            offset,
+            length,
+        } = entry;
+        let said = Header::of(&tile[entry.range()]).map_or(String::new(), |header| {
+            format!(" {} {} {}", header.vertices, header.edges, header.grade)
+        });
+        format!("{key} {offset} {length}{said}\n")
+    };
+    Ok(entries(tile)?.into_iter().map(line).collect())
+}
+
+/// The sheets of a tile, each with its key, those that are not sound told.
+fn sheets(tile: &[u8]) -> Result<Vec<(u32, Sheet)>, Failure> {
+    let entries = entries(tile)?;
+    let (mut sheets, mut told) = (Vec::new(), String::new());
+    for entry in &entries {
+        match Sheet::sound(tile[entry.range()].to_vec()) {
+            Ok(sheet) => sheets.push((entry.key, sheet)),
+            Err(failure) => told += &format!("key {}: {failure}\n", entry.key),
+        }
+    }
+    if told.is_empty() {
+        return Ok(sheets);
+    }
+    let unsound = number(entries.len() - sheets.len());
+    let all = counted(entries.len(), "sheet", "sheets");
+    Err(Failure::Unsound(format!(
+        "{told}{unsound} of {all} not sound"
+    )))
+}
+
+/// The picture of a tile's sheets.
+fn pictured(tile: &[u8]) -> Result<String, Failure> {
+    Ok(picture::of_tile(&sheets(tile)?))
+}
+
+/// That every sheet of a tile is sound, in words.
+fn checked(tile: &[u8]) -> Result<String, Failure> {
+    let sheets = sheets(tile)?;
+    let sum = |count: fn(&Sheet) -> usize| sheets.iter().map(|(_, sheet)| count(sheet)).sum();
+    let [all, vertices, edges] = [
+        counted(sheets.len(), "sheet", "sheets"),
+        counted(sum(|sheet| sheet.vertices().len()), "vertex", "vertices"),
+        counted(sum(Sheet::edge_count), "edge", "edges"),
+    ];
+    Ok(format!("{all}, all sound: {vertices}, {edges}\n"))
 }
 
 /// The tile of a file.
@@ -209,23 +305,58 @@ fn key_of(word: &str) -> Result<u32, Failure> {
 
 #[cfg(test)]
 mod tests {
-    use super::listed;
+    use super::{checked, entries, listed, Entry};
     use crate::calls;
     use crate::failure::Failure;
     use sehmelir::{Chunk, Refusal};
 
     #[test]
     fn entries_in_use_are_listed() {
-        let mut tile = Chunk::make(vec![0; 400], 3).unwrap();
+        let sheet = calls::keep(&[], 2).unwrap();
+        let length = sheet.len();
+        let mut tile = Chunk::make(vec![0; 40 + 3 * length], 3).unwrap();
         assert_eq!(listed(tile.bytes()).unwrap(), "");
-        let sheet = calls::keep(&[], 1).unwrap();
         for key in [0, 4_294_967_295, 7] {
             tile.add(key, &sheet).unwrap();
         }
-        let due = "0 40 24\n4294967295 64 24\n7 88 24\n";
+        let line = |key: u32, place: usize| {
+            let offset = 40 + place * length;
+            format!("{key} {offset} {length} 0 0 2\n")
+        };
+        let due = [line(0, 0), line(4_294_967_295, 1), line(7, 2)].concat();
         assert_eq!(listed(tile.bytes()).unwrap(), due);
         tile.remove(4_294_967_295).unwrap();
-        assert_eq!(listed(tile.bytes()).unwrap(), "0 40 24\n7 88 24\n");
+        assert_eq!(listed(tile.bytes()).unwrap(), line(0, 0) + &line(7, 2));
+        let (words, _) = tile.bytes()[4..].as_chunks::<12>();
+        let rows = entries(tile.bytes()).unwrap();
+        assert_eq!([rows[0].row(), rows[1].row()], [words[0], words[2]]);
+        assert_eq!(rows[1].range(), 40 + 2 * length..40 + 3 * length);
+        let Entry { key, .. } = rows[1];
+        assert_eq!(key, 7);
+    }
+
+    #[test]
+    fn every_sheet_is_checked() {
+        let sheet = calls::keep(&[0, 0, 10], 2).unwrap();
+        let mut tile = Chunk::make(vec![0; 1000], 3).unwrap();
+        tile.add(5, &sheet).unwrap();
+        tile.add(6, &sheet).unwrap();
+        let edges = (sheet.len() - calls::keep(&[], 2).unwrap().len()) / 16;
+        let told = checked(tile.bytes()).unwrap();
+        assert!(
+            told.starts_with("2 sheets, all sound: 2 vertices, "),
+            "{told}"
+        );
+        assert!(edges > 8);
+        let mut bytes = tile.into_bytes();
+        let first = entries(&bytes).unwrap()[0];
+        bytes[first.range().end - 1] ^= 1;
+        let refused = checked(&bytes).unwrap_err().to_string();
+        assert!(
+            refused.starts_with("key 5: refused with reply 8: "),
+            "{refused}"
+        );
+        assert!(refused.ends_with("\n1 of 2 sheets not sound"), "{refused}");
     }
 
     #[test]

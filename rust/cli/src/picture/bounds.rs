@@ -20,7 +20,7 @@ pub fn of_changed(shown: Shown) -> Option<Frame> {
 }
 
 /// The frame of a sheet.
-fn of_sheet(sheet: &Sheet) -> Option<Frame> {
+pub fn of_sheet(sheet: &Sheet) -> Option<Frame> {
     let vertices = sheet.vertices().iter().map(of_vertex);
     let edges = sheet.edges(0..sheet.edge_count()).map(of_edge);
     together(vertices.chain(edges))
@@ -38,7 +38,7 @@ fn of_marked(sheet: &Sheet, changes: &Changes) -> Option<Frame> {
 }
 
 /// The least frame that holds all of these.
-fn together(frames: impl Iterator<Item = Frame>) -> Option<Frame> {
+pub fn together(frames: impl Iterator<Item = Frame>) -> Option<Frame> {
     frames.reduce(Frame::and)
 }
 

@@ -16,7 +16,7 @@ const ROOM: i64 = 3600;
 const MOST: i64 = 120;
 
 /// A number stands so far to the right of its dot and above it, in hundredths.
-const BESIDE: i64 = 500;
+pub const BESIDE: i64 = 500;
 
 /// Which numbers are shown: every 1st, 2nd, 5th, 10th, 20th and so on, the
 /// first of these that leaves room.

@@ -27,11 +27,21 @@ const MOST_LINES: usize = 200_000;
 
 /// A page's sides and its panels: one for the whole sheet, and one for the part
 /// that is enlarged, if there is one.
-struct Page {
+pub struct Page {
     wide: i64,
     tall: i64,
-    whole: (Panel, View),
+    pub whole: (Panel, View),
     part: Option<(Panel, View)>,
+}
+
+/// What a page has beside its panels.
+pub struct Words {
+    pub heading: String,
+    /// What is said where the region is not filled.
+    pub unfilled: Option<String>,
+    pub colours: &'static str,
+    /// How many edges there are, of which the page may show fewer lines.
+    pub edges: usize,
 }
 
 /// The picture of one sheet.
@@ -68,7 +78,7 @@ fn alone(
     };
     let page = page_of_one(frame_of(shown));
     let heading = heading(&page);
-    fitted(&page, shown, &heading)
+    of_shown(&page, shown, heading)
 }
 
 /// The picture of two sheets with as many vertices, and of what differs.
@@ -90,7 +100,18 @@ pub fn of_two(before: &Sheet, after: &Sheet, changes: &Changes) -> String {
     } else {
         page_of_one(frame)
     };
-    fitted(&page, shown, &heading)
+    of_shown(&page, shown, heading)
+}
+
+/// A page of one sheet or of two.
+fn of_shown(page: &Page, shown: Shown, heading: String) -> String {
+    let words = Words {
+        heading,
+        unfilled: shown.region.is_none().then(title::of_unfilled),
+        colours: shown.reasons.map_or("", |_| reasons::STYLE),
+        edges: shown.after.edge_count(),
+    };
+    fitted(page, words, |tolerance| drawn(page, shown, tolerance))
 }
 
 /// The frame of all that is shown, with a margin.
@@ -99,7 +120,7 @@ fn frame_of(shown: Shown) -> Frame {
 }
 
 /// A page for one panel, upright or not.
-fn page_of_one(frame: Frame) -> Page {
+pub fn page_of_one(frame: Frame) -> Page {
     let (wide, tall) = if frame.is_upright() {
         (707, 1000)
     } else {
@@ -139,22 +160,26 @@ fn page_of_two(frame: Frame, changed: Frame) -> Page {
 
 /// The page drawn with the finest pen that keeps its lines few enough. Notes
 /// say what is not as it might be: points left out, a region not filled.
-fn fitted(page: &Page, shown: Shown, heading: &str) -> String {
+pub fn fitted(page: &Page, words: Words, draw: impl Fn(i64) -> (String, usize)) -> String {
+    let Words {
+        heading,
+        unfilled,
+        colours,
+        edges,
+    } = words;
     let mut panels = String::new();
     let mut shortcuts = None;
     for (tolerance, most) in PENS {
-        let (text, lines) = drawn(page, shown, tolerance);
+        let (text, lines) = draw(tolerance);
         panels = text;
         if tolerance > 0 {
-            shortcuts = Some(title::of_shortcuts(shown, tolerance, lines));
+            shortcuts = Some(title::of_shortcuts(edges, tolerance, lines));
         }
         if lines <= most {
             break;
         }
     }
-    let unfilled = shown.region.is_none().then(title::of_unfilled);
     let notes = notes(page, [shortcuts, unfilled]);
-    let colours = shown.reasons.map_or("", |_| reasons::STYLE);
     let Page { wide, tall, .. } = page;
     format!(
         "<svg xmlns=\"http://www.w3.org/2000/svg\" viewBox=\"0 0 {wide} {tall}\" \
@@ -192,7 +217,7 @@ fn drawn(page: &Page, shown: Shown, tolerance: i64) -> (String, usize) {
 }
 
 /// A line of words.
-fn words(class: &str, x: i64, y: i64, told: &str) -> String {
+pub fn words(class: &str, x: i64, y: i64, told: &str) -> String {
     format!("<text class=\"{class}\" x=\"{x}\" y=\"{y}\">{told}</text>\n")
 }
 

@@ -1,4 +1,4 @@
-//! A picture of a sheet, or of what changed between two, as SVG. All places are
+//! A picture of a sheet, of what changed between two, or of a tile, as SVG. All places are
 //! whole hundredths of the page's unit, so that the same sheets give the same
 //! picture on every machine.
 
@@ -13,6 +13,7 @@ mod pen;
 mod reasons;
 mod region;
 mod shortcut;
+mod tile;
 mod title;
 mod view;
 
@@ -22,6 +23,7 @@ use region::Loops;
 use sehmelir::Reason;
 
 pub use layout::{of_one, of_reasons, of_two};
+pub use tile::of_tile;
 
 /// What a picture shows: one sheet as `before` and `after` with nothing marked,
 /// or two.

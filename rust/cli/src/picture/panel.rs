@@ -69,7 +69,7 @@ pub fn border(panel: Panel) -> String {
 }
 
 /// A panel's place on the page, as attributes.
-fn place(panel: Panel) -> String {
+pub fn place(panel: Panel) -> String {
     let Panel { x, y, wide, tall } = panel;
     format!(" x=\"{x}\" y=\"{y}\" width=\"{wide}\" height=\"{tall}\"")
 }

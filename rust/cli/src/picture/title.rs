@@ -29,6 +29,16 @@ pub fn of_two(before: &Sheet, after: &Sheet) -> String {
     format!("{vertices}, {edges} before and {later} after, grade {grade}{kerb}")
 }
 
+/// The first line of a tile's picture.
+pub fn of_tile(sheets: &[(u32, Sheet)]) -> String {
+    let sum = |count: fn(&Sheet) -> usize| sheets.iter().map(|(_, sheet)| count(sheet)).sum();
+    let lines = counted(sheets.len(), "line", "lines");
+    let vertices = sum(|sheet| sheet.vertices().len());
+    let vertices = counted(vertices, "vertex", "vertices");
+    let edges = counted(sum(Sheet::edge_count), "edge", "edges");
+    format!("{lines}, {vertices}, {edges}")
+}
+
 /// What differs, in one line.
 pub fn of_changes(shown: Shown) -> String {
     let (vertices, bodies) = (&shown.changes.vertices, &shown.changes.bodies);
@@ -79,16 +89,24 @@ pub fn of_part(times: i64) -> String {
 }
 
 /// What is said where lines stand for more edges than the page can show.
-pub fn of_shortcuts(shown: Shown, tolerance: i64, lines: usize) -> String {
+pub fn of_shortcuts(edges: usize, tolerance: i64, lines: usize) -> String {
     format!(
         "drawn no finer than the page can show: true to {} of its units, {} for {} edges",
         decimal(tolerance),
         counted(lines, "line", "lines"),
-        number(shown.after.edge_count())
+        number(edges)
     )
 }
 
 /// What is said where the boundary does not close.
 pub fn of_unfilled() -> String {
     "not filled: a join's arc has one end at its centre, and the edges do not close".to_string()
+}
+
+/// What is said where the boundaries of so many lines of a tile do not close.
+pub fn of_unfilled_lines(count: usize) -> String {
+    let lines = counted(count, "line", "lines");
+    format!(
+        "{lines} not filled: a join's arc has one end at its centre, and the edges do not close"
+    )
 }
