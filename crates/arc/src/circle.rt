@@ -1,6 +1,8 @@
 // An arc between two points at about one distance from its centre, and a circle, which is two of them.
+use crate::fine::fine_circle;
 use folds::Pen;
 use folds::folding::fold;
+use half_turn::finest::finest;
 use leaps::turns::turns;
 use plane::Point;
 use plane::Vector;
@@ -47,7 +49,7 @@ pub fn swept(
 }
 
 // The point of a circle farthest to the east.
-fn east(c: Point, radius: i64) -> Point
+pub fn east(c: Point, radius: i64) -> Point
     requires { ⌜ Centre c × Radius radius ⌝ }
     ensures { λ p. ⌜ p ≡ eastOf c radius ⌝ }
 {
@@ -58,7 +60,7 @@ fn east(c: Point, radius: i64) -> Point
 }
 
 // The point of a circle farthest to the west.
-fn west(c: Point, radius: i64) -> Point
+pub fn west(c: Point, radius: i64) -> Point
     requires { ⌜ Centre c × Radius radius ⌝ }
     ensures { λ p. ⌜ p ≡ westOf c radius ⌝ }
 {
@@ -68,8 +70,8 @@ fn west(c: Point, radius: i64) -> Point
     }
 }
 
-// A circle, or nothing where the radius is 1 or less. Its arcs are alike: where the first is only counted, that counts the second.
-pub fn circle(out: &mut [i32], at: usize, pen: Pen, c: Point, radius: i64) -> usize
+// A circle by rotations. Its arcs are alike: where the first is only counted, that counts the second.
+fn turned_circle(out: &mut [i32], at: usize, pen: Pen, c: Point, radius: i64) -> usize
     requires { ⌜ UnitLong (pen .step) × Centre c × Radius radius ⌝ }
     requires { ⌜ Room edgeNumbers at (circleOf (pen .step) c radius) ⌝ }
     ensures { λ n. ⌜ Lays (pen .step) (pen .folds) (now (out .entry)) at (circleOf (pen .step) c radius) (now (out .exit)) n ⌝ }
@@ -92,4 +94,17 @@ pub fn circle(out: &mut [i32], at: usize, pen: Pen, c: Point, radius: i64) -> us
         return n + (n - at);
     }
     swept(out, n, pen, c, radius, w, westward, e, eastward)
+}
+
+// A circle, or nothing where the radius is 1 or less: from the table, where that has its directions.
+pub fn circle(out: &mut [i32], at: usize, pen: Pen, c: Point, radius: i64) -> usize
+    requires { ⌜ UnitLong (pen .step) × Centre c × Radius radius ⌝ }
+    requires { ⌜ Room edgeNumbers at (circleOf (pen .step) c radius) ⌝ }
+    ensures { λ n. ⌜ Lays (pen .step) (pen .folds) (now (out .entry)) at (circleOf (pen .step) c radius) (now (out .exit)) n ⌝ }
+{
+    let t = pen.step;
+    if finest(t) {
+        return fine_circle(out, at, pen, c, radius);
+    }
+    turned_circle(out, at, pen, c, radius)
 }

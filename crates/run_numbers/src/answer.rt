@@ -58,7 +58,8 @@ pub fn quotient(a: Number, b: Number, d: Number) -> Answer {
     let second = signed(b.minus, b.size);
     let divisor = signed(false, d.size);
     let quotient = number::division::mul_div(first, second, divisor);
-    Answer::Two(quotient.value, quotient.exact as i64)
+    let exact = quotient.exact as i64;
+    Answer::Two(quotient.value, exact)
 }
 
 // The vector of these coordinates.

@@ -187,3 +187,81 @@ impl Worker<'_> {
 fn tile_name(group: usize, tile: usize) -> String {
     format!("{group:06}-{tile:04}.tile")
 }
+
+#[cfg(test)]
+mod tests {
+    use super::{tile_name, Worker};
+    use crate::failure::Failure;
+    use crate::migration::archive::{Archive, Keys};
+    use crate::migration::progress::Progress;
+    use crate::migration::{Asked, Job};
+    use crate::oldest;
+    use std::fs;
+    use std::path::{Path, PathBuf};
+    use std::process;
+
+    /// A directory for a test, which is removed in the end.
+    struct Scratch(PathBuf);
+
+    impl Scratch {
+        fn new(name: &str) -> Scratch {
+            let place = std::env::temp_dir().join(format!("sehmelir-{name}-{}", process::id()));
+            fs::create_dir_all(place.join("old")).unwrap();
+            fs::create_dir_all(place.join("tiles")).unwrap();
+            Scratch(place)
+        }
+
+        fn job(&self) -> Job {
+            Job {
+                archive: Archive::of(&self.0.join("old"), Keys::Name).unwrap(),
+                asked: Asked {
+                    grade: 4,
+                    keys: Keys::Name,
+                    entries: 8,
+                    bytes: 100_000,
+                },
+                tiles: self.0.join("tiles"),
+                progress: Progress::new(2),
+            }
+        }
+    }
+
+    impl Drop for Scratch {
+        fn drop(&mut self) {
+            let _ = fs::remove_dir_all(&self.0);
+        }
+    }
+
+    fn count(directory: &Path) -> usize {
+        fs::read_dir(directory).unwrap().count()
+    }
+
+    #[test]
+    fn a_tile_that_differs_is_a_fault_and_never_stands() {
+        let scratch = Scratch::new("fault");
+        for (name, x) in [("7.old", 3.0), ("9.old", -0.0)] {
+            let file = oldest::bytes(&[[x, 0.0, 10.0], [40.0, 0.0, 20.0]]);
+            fs::write(scratch.0.join("old").join(name), file).unwrap();
+        }
+        let job = scratch.job();
+        let mut worker = Worker::new(&job).unwrap();
+        for file in 0..2 {
+            worker.take(file, 0, &mut 0).unwrap();
+        }
+        // as if the second line had been another
+        worker.floats[6] = 5.0;
+        let name = tile_name(0, 0);
+        let told = match worker.close(&name) {
+            Err(Failure::Fault(told)) => told,
+            other => panic!("{other:?}"),
+        };
+        assert!(told.starts_with("FAULT: "), "{told}");
+        let due = "key 9, of 9.old: x of vertex 0, at place 0, is 0.0, and was 5.0";
+        assert!(told.ends_with(due), "{told}");
+        assert_eq!(count(&job.tiles), 0);
+        worker.floats[6] = -0.0;
+        worker.close(&name).unwrap();
+        assert_eq!(count(&job.tiles), 1);
+        assert!(job.tiles.join(name).is_file());
+    }
+}

@@ -44,6 +44,9 @@ mul-div-requires c κs =
     let d = signed-size false (x .d .size) (c .signed3 .ensures) (record { sfits = c .signed3 .ok }) in
     (omega (arith, a), omega (arith, b, d), signed-above (c .signed3 .ensures) (record { sfits = c .signed3 .ok }) (omega arith), omega (arith, d))
 
+cast-exact : tie.Need-cast-exact
+cast-exact c = search needs
+
 returns-7 : tie.Need-returns-7
 returns-7 c = search needs
 
@@ -62,4 +65,5 @@ quotient-spec =
     signed-requires-2
     signed-requires-3
     mul-div-requires
+    cast-exact
     returns-7)
