@@ -19,8 +19,18 @@
  * start, x and y of its end.
  *
  * An OUTLINE is a path or a kerb, its grade and its edges kept as bytes. Of a
- * path it has 24 + 16 * vertices + 16 * edges of them, made of 32-bit
+ * path it has 24 + 20 * vertices + 16 * edges of them, made of 32-bit
  * little-endian words:
+ *
+ *     2, 0, grade, vertices, edges                      edition 2, kind 0
+ *     for each vertex: x, y, radius, point number, edges drawn on reaching it
+ *     edges drawn at the end
+ *     for each edge: x and y of its start, x and y of its end
+ *
+ * A POINT NUMBER is any 32-bit word: the vertex's number in the survey book, 0
+ * where there is none. Edition 1, in which outlines were kept before, has no
+ * point numbers and 24 + 16 * vertices + 16 * edges bytes; it is read as
+ * before, and a vertex replaced in it leaves it of edition 1:
  *
  *     1, 0, grade, vertices, edges                      edition 1, kind 0
  *     for each vertex: x, y, radius, edges drawn on reaching it
@@ -34,10 +44,10 @@
  *     edges of the lines, of the corners, of the ends
  *     for each edge, in that order: x and y of its start, x and y of its end
  *
- * It is SOUND if it equals, byte for byte, what its own vertices and grade, and
- * style, give. A STORE is memory that begins with an outline; what stands after
- * the outline is neither looked at nor, unless the outline grows over it,
- * changed.
+ * It is SOUND if it equals, byte for byte, what its own vertices, point numbers
+ * and grade, and style, give in its edition. A STORE is memory that begins with
+ * an outline; what stands after the outline is neither looked at nor, unless
+ * the outline grows over it, changed.
  *
  * The OLDEST CHUNKS keep a vertex as three 32-bit floats: x, y and full width,
  * in millimetres. A coordinate is a whole number within the limits above, a
@@ -46,9 +56,9 @@
  *
  * Lent memory, for all calls:
  *
- * - Lengths count elements: int32_t in a path or in edges, float in the oldest
- *   chunks, size_t in a list of reasons, bytes in a store or a chunk. Of vertex
- *   records it is the records that are counted.
+ * - Lengths count elements: int32_t in a path or in edges, uint32_t in point
+ *   numbers, float in the oldest chunks, size_t in a list of reasons, bytes in a
+ *   store or a chunk. Of vertex records it is the records that are counted.
  * - A pointer is never null and is aligned for its type, even where the length
  *   is 0. Where there is nothing to lend, pass the address of any variable of
  *   the type, and 0:
@@ -70,12 +80,11 @@
  * The calls allocate nothing, keep nothing between calls, and may run in
  * several threads at once. On the stack sehmelir_draw and sehmelir_draw_kerb
  * take up to 528 KiB, sehmelir_draw_records up to 584 KiB, sehmelir_keep,
- * sehmelir_keep_kerb, sehmelir_keep_records, sehmelir_read, sehmelir_replace,
- * sehmelir_reach, sehmelir_explain, sehmelir_list and sehmelir_chunk_add up to
- * 256 KiB, and
- * sehmelir_chunk_find, sehmelir_chunk_remove and sehmelir_chunk_compact up to
- * 32 KiB, so a thread that calls them needs more than that; the others take
- * below 1 KiB.
+ * sehmelir_keep_kerb, sehmelir_keep_records, sehmelir_read, sehmelir_numbers,
+ * sehmelir_replace, sehmelir_reach, sehmelir_explain, sehmelir_list and
+ * sehmelir_chunk_add up to 256 KiB, and sehmelir_chunk_find,
+ * sehmelir_chunk_remove and sehmelir_chunk_compact up to 32 KiB, so a thread
+ * that calls them needs more than that; the others take below 1 KiB.
  *
  * It is proved of each call that its reply and all lent memory afterwards are
  * what the rules give. The proof rests on memory being lent as said above.
@@ -104,8 +113,12 @@ extern "C" {
 /* The bytes of stack that a call takes at most. */
 #define SEHMELIR_STACK_BYTES (584 * 1024)
 
-/* The bytes of an outline with so many vertices and edges. */
+/* The bytes of an outline with so many vertices and edges, in edition 2. */
 #define SEHMELIR_OUTLINE_BYTES(vertices, edges)                                \
+    ((size_t)24 + (size_t)20 * (vertices) + (size_t)16 * (edges))
+
+/* The bytes of an outline of edition 1. */
+#define SEHMELIR_FIRST_EDITION_BYTES(vertices, edges)                          \
     ((size_t)24 + (size_t)16 * (vertices) + (size_t)16 * (edges))
 
 /* The bytes of a kept kerb with so many vertices and edges. */
@@ -124,7 +137,8 @@ enum sehmelir_reply_number {
     SEHMELIR_GRADE = 3,         /* the grade is not 1 to 8 */
     SEHMELIR_OUTSIDE = 4,       /* a vertex lies outside the limits */
     SEHMELIR_NO_ROOM = 5,       /* the result is longer than the room lent */
-    SEHMELIR_NOT_OUTLINE = 6,   /* the store is too short, or not of edition 1 */
+    SEHMELIR_NOT_OUTLINE = 6,   /* the store is too short, or its edition is
+                                   not read */
     SEHMELIR_KIND = 7,          /* the outline's kind is neither 0 nor 1 */
     SEHMELIR_NOT_SOUND = 8,     /* the outline is not sound */
     SEHMELIR_NO_VERTEX = 9,     /* the outline has no vertex of that index */
@@ -187,7 +201,8 @@ struct sehmelir_reply sehmelir_draw(const int32_t *path, size_t path_len,
                                     size_t out_len);
 
 /*
- * Keeps a path, its grade and its edges as an outline in `out`.
+ * Keeps a path, its grade and its edges as an outline of edition 2 in `out`.
+ * Every point number is 0.
  *
  * The first of these that applies is the reply:
  *
@@ -289,10 +304,12 @@ struct sehmelir_reply sehmelir_keep_kerb(const int32_t *points,
  * The first of these that applies is the reply:
  *
  *     6 SEHMELIR_NOT_OUTLINE  store_len is below 24, or the edition is not 1
+ *                             or 2
  *                             number: 0
  *     7 SEHMELIR_KIND         the kind is neither 0 nor 1
  *                             number: the kind
- *     6 SEHMELIR_NOT_OUTLINE  the kind is 1 and store_len is below 44
+ *     6 SEHMELIR_NOT_OUTLINE  the kind is 1, and store_len is below 44 or
+ *                             the edition is 2
  *                             number: 0
  *     3 SEHMELIR_GRADE        the grade in the store is not 1 to 8
  *                             number: that grade
@@ -323,8 +340,29 @@ struct sehmelir_path sehmelir_read(const uint8_t *store, size_t store_len,
                                    int32_t *out, size_t out_len);
 
 /*
+ * Reads the point numbers of a sound outline of a path into `out`, one for each
+ * vertex: 0 for every one in an outline of edition 1.
+ *
+ * The first of these that applies is the reply:
+ *
+ *     6, 7, 6, 3, 11, 2, 6, 4, 8
+ *                             those of sehmelir_read but 5, in their order
+ *    12 SEHMELIR_OTHER_KIND   the outline is of a kerb
+ *                             number: its kind, 1
+ *     5 SEHMELIR_NO_ROOM      out_len is below the vertices
+ *                             number: the vertices
+ *     0 SEHMELIR_DONE         the point numbers stand in `out`
+ *                             number: the vertices
+ *
+ * Takes up to 256 KiB of stack.
+ */
+struct sehmelir_reply sehmelir_numbers(const uint8_t *store, size_t store_len,
+                                       uint32_t *out, size_t out_len);
+
+/*
  * Replaces the vertex of the given index, counted from 0, in a sound outline.
- * The store then holds the outline of the changed path, at the same grade.
+ * The store then holds the outline of the changed path, at the same grade, in
+ * the same edition and with every point number as it was.
  *
  * The room is the whole store: the new outline may reach up to store_len. If
  * it is longer than the old one it overwrites what stood after that; if it is
@@ -334,10 +372,12 @@ struct sehmelir_path sehmelir_read(const uint8_t *store, size_t store_len,
  * The first of these that applies is the reply:
  *
  *     6 SEHMELIR_NOT_OUTLINE  store_len is below 24, or the edition is not 1
+ *                             or 2
  *                             number: 0
  *     7 SEHMELIR_KIND         the kind is neither 0 nor 1
  *                             number: the kind
- *     6 SEHMELIR_NOT_OUTLINE  the kind is 1 and store_len is below 44
+ *     6 SEHMELIR_NOT_OUTLINE  the kind is 1, and store_len is below 44 or
+ *                             the edition is 2
  *                             number: 0
  *     3 SEHMELIR_GRADE        the grade in the store is not 1 to 8
  *                             number: that grade
@@ -389,10 +429,12 @@ struct sehmelir_reply sehmelir_replace(uint8_t *store, size_t store_len,
  * The first of these that applies is the reply:
  *
  *     6 SEHMELIR_NOT_OUTLINE  store_len is below 24, or the edition is not 1
+ *                             or 2
  *                             number: 0
  *     7 SEHMELIR_KIND         the kind is neither 0 nor 1
  *                             number: the kind
- *     6 SEHMELIR_NOT_OUTLINE  the kind is 1 and store_len is below 44
+ *     6 SEHMELIR_NOT_OUTLINE  the kind is 1, and store_len is below 44 or
+ *                             the edition is 2
  *                             number: 0
  *     3 SEHMELIR_GRADE        the grade in the store is not 1 to 8
  *                             number: that grade
@@ -458,10 +500,12 @@ struct sehmelir_reason {
  * The first of these that applies is the reply:
  *
  *     6 SEHMELIR_NOT_OUTLINE  store_len is below 24, or the edition is not 1
+ *                             or 2
  *                             number: 0
  *     7 SEHMELIR_KIND         the kind is neither 0 nor 1
  *                             number: the kind
- *     6 SEHMELIR_NOT_OUTLINE  the kind is 1 and store_len is below 44
+ *     6 SEHMELIR_NOT_OUTLINE  the kind is 1, and store_len is below 44 or
+ *                             the edition is 2
  *                             number: 0
  *     3 SEHMELIR_GRADE        the grade in the store is not 1 to 8
  *                             number: that grade

@@ -1,7 +1,8 @@
 /*
- * The calls from C, on one path: document 01's example 5, and how far a vertex
- * reaches on a few more; then vertex records, why its edges are there, kerbs, the oldest chunks,
- * and many outlines in one chunk. One line for each check; the exit status is 1 if one of them fails.
+ * The calls from C, on one path: document 01's example 5, with and without point
+ * numbers, and how far a vertex reaches on a few more; then vertex records, why
+ * its edges are there, kerbs, the oldest chunks, and many outlines in one chunk.
+ * One line for each check; the exit status is 1 if one of them fails.
  */
 #include "sehmelir.h"
 
@@ -14,8 +15,9 @@ enum {
     PATH = 6,      /* numbers of the path */
     EDGES = 10,    /* its edges */
     NUMBERS = 40,  /* numbers of its edges */
-    OUTLINE = 216, /* bytes of its outline */
-    POINTS = 56,   /* bytes of an outline of two vertices without edges */
+    OUTLINE = 224, /* bytes of its outline */
+    POINTS = 64,   /* bytes of an outline of two vertices without edges */
+    ONCE = 216,    /* bytes of its outline as it was kept in edition 1 */
     SPARE = 9,     /* lent beyond the result */
     CANARIES = 16  /* not lent, before and after each lent buffer */
 };
@@ -32,7 +34,8 @@ static const int32_t edges[EDGES][4] = {
 };
 
 /* the words of the outline before its edges */
-static const int32_t words[14] = {1, 0, 1, 2, 10, 0, 0, 5, 0, 20, 0, 5, 6, 4};
+static const int32_t words[16] = {2, 0, 1,  2, 10, 0, 0, 5,
+                                  0, 0, 20, 0, 5,  0, 6, 4};
 
 /* Lent memory, canaries on both sides. */
 struct numbers {
@@ -89,7 +92,7 @@ static void put_word(uint8_t *at, int32_t word) {
 
 /* The outline of the path, by hand. */
 static void put_outline(uint8_t *at) {
-    for (int index = 0; index < 14; index++)
+    for (int index = 0; index < 16; index++)
         put_word(at + 4 * index, words[index]);
     for (int index = 0; index < NUMBERS; index++)
         put_word(at + POINTS + 4 * index, edges[index / 4][index % 4]);
@@ -211,7 +214,7 @@ static void check_keep(void) {
           "keep's refusals change nothing");
 
     check_reply(sehmelir_keep(path, PATH, 1, out.lent, OUTLINE + SPARE),
-                SEHMELIR_DONE, OUTLINE, 0, "keep gives 216 bytes");
+                SEHMELIR_DONE, OUTLINE, 0, "keep gives 224 bytes");
     put_outline(expected.lent);
     check(memcmp(&out, &expected, sizeof out) == 0,
           "keep writes the outline and nothing else");
@@ -274,9 +277,9 @@ static void check_replace(void) {
           "that refusal changes nothing");
 
     /* an outline without edges, as they were kept once */
-    static const int32_t points[14] = {1, 0, 1,  2, 0, 0, 0,
-                                       1, 0, 20, 0, 1, 0, 0};
-    for (int index = 0; index < 14; index++) {
+    static const int32_t points[16] = {2, 0, 1,  2, 0, 0, 0, 1,
+                                       0, 0, 20, 0, 1, 0, 0, 0};
+    for (int index = 0; index < 16; index++) {
         put_word(store.lent + 4 * index, points[index]);
         put_word(expected.lent + 4 * index, points[index]);
     }
@@ -302,6 +305,54 @@ static void check_replace(void) {
     put_outline(expected.lent);
     check(memcmp(&store, &expected, sizeof store) == 0,
           "the outline is again what keep gave, and nothing else changed");
+}
+
+/* Point numbers: of edition 2 what stands there, of edition 1 zeros. */
+static void check_numbers(void) {
+    struct bytes store, same;
+    fill(&store, sizeof store);
+    put_outline(store.lent);
+    put_word(store.lent + 32, 411);
+    put_word(store.lent + 52, -1);
+    same = store;
+    uint32_t out[5] = {7, 7, 7, 7, 7};
+
+    check_reply(sehmelir_numbers(store.lent, OUTLINE, out + 1, 1),
+                SEHMELIR_NO_ROOM, 2, 0, "numbers are refused one short");
+    check_reply(sehmelir_numbers(store.lent, OUTLINE - 1, out + 1, 3),
+                SEHMELIR_NOT_OUTLINE, 0, 0, "numbers of a store one byte short");
+    check(out[0] == 7 && out[1] == 7 && out[2] == 7 && out[3] == 7,
+          "these refusals change nothing");
+    check_reply(sehmelir_numbers(store.lent, OUTLINE + SPARE, out + 1, 3),
+                SEHMELIR_DONE, 2, 0, "two numbers are read");
+    check(out[0] == 7 && out[1] == 411 && out[2] == 4294967295 &&
+              out[3] == 7 && out[4] == 7,
+          "they and nothing else are written");
+    check(memcmp(&store, &same, sizeof store) == 0,
+          "numbers leaves the store as it was");
+
+    check_reply(sehmelir_replace(store.lent, OUTLINE, 1, 20, 0, 5),
+                SEHMELIR_DONE, OUTLINE, 0, "a vertex is replaced by itself");
+    check(memcmp(&store, &same, sizeof store) == 0, "and keeps its number");
+
+    /* the same path in edition 1: no number in an entry */
+    static const size_t kept[3][3] = {{4, 4, 28}, {32, 36, 16}, {48, 56, 168}};
+    put_word(store.lent, 1);
+    for (int part = 0; part < 3; part++)
+        memcpy(store.lent + kept[part][0], same.lent + kept[part][1],
+               kept[part][2]);
+    same = store;
+    check_reply(sehmelir_numbers(store.lent, ONCE, out + 1, 2), SEHMELIR_DONE,
+                2, 0, "edition 1 is read");
+    check(out[1] == 0 && out[2] == 0, "its numbers are 0");
+    int32_t still[PATH];
+    check_path(sehmelir_read(store.lent, ONCE, still, PATH), SEHMELIR_DONE, 2,
+               1, "and so are its vertices");
+    check(memcmp(still, path, sizeof path) == 0, "which are the path");
+    check_reply(sehmelir_replace(store.lent, ONCE, 1, 20, 0, 5), SEHMELIR_DONE,
+                ONCE, 0, "a vertex of edition 1 is replaced");
+    check(memcmp(&store, &same, sizeof store) == 0,
+          "and the outline stays of edition 1");
 }
 
 /* How far a vertex of a path reaches that is kept in a store. */
@@ -433,27 +484,31 @@ static void check_damaged(int place, int32_t word, uint32_t reply,
                 number, 0, "  and replace refuses it alike");
     check_reply(sehmelir_reach(store.lent, OUTLINE, 9), reply, number, 0,
                 "  and so does reach");
+    uint32_t word_out = 7;
+    check_reply(sehmelir_numbers(store.lent, OUTLINE, &word_out, 1), reply,
+                number, 0, "  and numbers");
     check_reason(sehmelir_explain(store.lent, OUTLINE, 99), reply, number,
                  unnamed, "  and explain");
     size_t none = 0;
     check_reply(sehmelir_list(store.lent, OUTLINE, &none, 0), reply, number, 0,
                 "  and list");
     check(memcmp(&store, &damaged, sizeof store) == 0 &&
-              memcmp(&out, &same, sizeof out) == 0,
+              memcmp(&out, &same, sizeof out) == 0 && word_out == 7,
           "  and nothing is changed");
 }
 
 static void check_damage(void) {
-    check_damaged(0, 2, SEHMELIR_NOT_OUTLINE, 0, "read of edition 2");
+    check_damaged(0, 3, SEHMELIR_NOT_OUTLINE, 0, "read of edition 3");
+    check_damaged(0, 1, SEHMELIR_NOT_SOUND, 16, "read of edition 2 as 1");
     check_damaged(1, 2, SEHMELIR_KIND, 2, "read of kind 2");
     check_damaged(2, 9, SEHMELIR_GRADE, 9, "read of grade 9");
     check_damaged(3, 4097, SEHMELIR_TOO_MANY, 4097, "read of 4,097 vertices");
     check_damaged(4, 11, SEHMELIR_NOT_OUTLINE, 0, "read of one edge too many");
-    check_damaged(9, -268435457, SEHMELIR_OUTSIDE, 1,
+    check_damaged(10, -268435457, SEHMELIR_OUTSIDE, 1,
                   "read of a vertex outside the limits");
     check_damaged(4, 9, SEHMELIR_NOT_SOUND, 16, "read of one edge too few");
-    check_damaged(12, 7, SEHMELIR_NOT_SOUND, 48, "read of a wrong edge count");
-    check_damaged(53, 5 + 256, SEHMELIR_NOT_SOUND, 213,
+    check_damaged(14, 7, SEHMELIR_NOT_SOUND, 56, "read of a wrong edge count");
+    check_damaged(55, 5 + 256, SEHMELIR_NOT_SOUND, 221,
                   "read of a wrong last edge");
 }
 
@@ -766,6 +821,7 @@ int main(void) {
     check_records();
     check_read();
     check_replace();
+    check_numbers();
     check_reach();
     check(sizeof(struct sehmelir_reason) == 40 &&
               offsetof(struct sehmelir_reason, reason) == 4 &&

@@ -26,9 +26,10 @@ use Rattle.paths.proofs.Reach.{edges-reach}
 use Rattle.outline.specs.Layout.{edgeBytes}
 use Rattle.outline.specs.Outlines.{headerOf, bodyWords, tableFor, edgesFor, partsWords, outlineWords, outlineBytes}
 use Rattle.outline.specs.Theorems.{AllRadius, Formed}
+use Rattle.outline.specs.declared.Edition.the-variants.{Second}
 use Rattle.outline.specs.declared.Form.{Form}
 use Rattle.outline.specs.declared.Form.the-variants.{Stroke, Kerb}
-use Rattle.outline.specs.Stores.{formIn, gradeIn, lengthIn, pathIn}
+use Rattle.outline.specs.Stores.{formIn, gradeIn, lengthIn, pathIn, postsIn}
 use Rattle.outline.proofs.ReadBack.{numbers-length, length-back, header-word}
 use Rattle.replies.specs.Replies.{Reply, triplesRow, gradeRow, countRow, outsideRow, emptyRow, roomRow, pathRows, written}
 use Rattle.replies.proofs.Rows.{NoneHold, first-none, none-last}
@@ -85,44 +86,44 @@ kerb-points y [] h r = tt
 kerb-points y (v ∷ vs) h r = let a = inside-first v vs h in (record { inside = inside-of (a .0); radius = r .0 }, kerb-points y vs (a .1) (r .1))
 
 -- what either kind has: its edges can be read back, and close
-form-reach : (f : Form) (g : ℕ) (vs : List Vertex) → Formed f g vs → AllReach (edgesFor f g vs)
-form-reach Stroke g vs w = edges-reach g vs (w .0 .inside)
-form-reach (Kerb y) g vs w = kerb-reach g y vs (w .1 .0) (kerb-points y vs (w .0 .inside) (w .1 .1))
+form-reach : (f : Form) (g : ℕ) (ps : List ℕ) (vs : List Vertex) → Formed f g ps vs → AllReach (edgesFor f g vs)
+form-reach (Stroke e) g ps vs w = edges-reach g vs (w .0 .inside)
+form-reach (Kerb y) g ps vs w = kerb-reach g y vs (w .1 .0) (kerb-points y vs (w .0 .inside) (w .1 .1))
 
-form-closes : (f : Form) (g : ℕ) (vs : List Vertex) → Formed f g vs → strayIn f vs ≡ false → Balanced (edgesFor f g vs)
+form-closes : (f : Form) (g : ℕ) (ps : List ℕ) (vs : List Vertex) → Formed f g ps vs → strayIn f vs ≡ false → Balanced (edgesFor f g vs)
 unfolding strayIn
-form-closes Stroke g vs w e = boundary-closes g vs (w .0 .inside) e
-form-closes (Kerb y) g vs w e = kerb-closes g y vs
+form-closes (Stroke d) g ps vs w e = boundary-closes g vs (w .0 .inside) e
+form-closes (Kerb y) g ps vs w e = kerb-closes g y vs
 
 -- a store that begins with an outline: before its edges stand header and table
-module _ (f : Form) (g : ℕ) (vs : List Vertex) (rest : List ℕ) (w : Formed f g vs) where
+module _ (f : Form) (g : ℕ) (ps : List ℕ) (vs : List Vertex) (rest : List ℕ) (w : Formed f g ps vs) where
   abbrev store : List ℕ
-  store = outlineBytes f g vs ++ rest
+  store = outlineBytes f g ps vs ++ rest
 
   abbrev due : List Edge
   due = edgesFor f g vs
 
   front : List ℕ
-  front = headerOf f g (length vs) (length due) ++ tableFor f g vs
+  front = headerOf f g (length vs) (length due) ++ tableFor f g ps vs
 
   abbrev body : List ℕ
   body = bytesOf (bodyWords due)
 
-  bytes-split : outlineBytes f g vs ≡ bytesOf front ++ body
+  bytes-split : outlineBytes f g ps vs ≡ bytesOf front ++ body
   unfolding front outlineBytes outlineWords partsWords bytesOf
   bytes-split =
-      ap (spread fourBytes) (sym (append-assoc (headerOf f g (length vs) (length due)) (tableFor f g vs) (bodyWords due)))
+      ap (spread fourBytes) (sym (append-assoc (headerOf f g (length vs) (length due)) (tableFor f g ps vs) (bodyWords due)))
       ∙ spread-append fourBytes front (bodyWords due)
 
   edge-count : wordAt store 4 ≡ length due
   unfolding outlineWords partsWords headerOf
-  edge-count = header-word f g vs rest w 4
+  edge-count = header-word f g ps vs rest w 4
 
   body-long : length body ≡ edgeBytes * wordAt store 4
   body-long = omega (arith, bytes-length (bodyWords due), numbers-length due, edge-count)
 
   front-long : length (bytesOf front) ≡ lengthIn store - edgeBytes * wordAt store 4
-  front-long = omega (arith, body-long, length-back f g vs rest w, ap length bytes-split, length-append (bytesOf front) body)
+  front-long = omega (arith, body-long, length-back f g ps vs rest w, ap length bytes-split, length-append (bytesOf front) body)
 
   edges-stored : storedEdges store ≡ due
   unfolding storedEdges
@@ -131,14 +132,15 @@ module _ (f : Form) (g : ℕ) (vs : List Vertex) (rest : List ℕ) (w : Formed f
       let n : ℕ = edgeBytes * wordAt store 4 in
       ap (λ (l : List ℕ). edgesFrom (numbersOf (wordsIn (take n l)))) (ap (drop (lengthIn store - n)) split ∙ drop-at (bytesOf front) (body ++ rest) _ front-long)
       ∙ ap (λ (l : List ℕ). edgesFrom (numbersOf (wordsIn l))) (take-at body rest n body-long)
-      ∙ bytes-again due (form-reach f g vs w)
+      ∙ bytes-again due (form-reach f g ps vs w)
 
   stored-closes : strayIn f vs ≡ false → StoredCloses store
-  stored-closes e = rw (edges-stored, edge-count) (refl, form-closes f g vs w e)
+  stored-closes e = rw (edges-stored, edge-count) (refl, form-closes f g ps vs w e)
 
 pub sound-closes : SoundCloses
-sound-closes s w e f = rw (sound-begins s e) (stored-closes (formIn s) (gradeIn s) (pathIn s) (drop (lengthIn s) s) w f)
+sound-closes s w e f = rw (sound-begins s e) (stored-closes (formIn s) (gradeIn s) (postsIn s) (pathIn s) (drop (lengthIn s) s) w f)
 
 pub kept-closes : KeptCloses
 unfolding strayIn
-kept-closes path g out h f = rw (keep-out path g out h) (stored-closes Stroke g (pathOf path) (drop (length (outlineBytes Stroke g (pathOf path))) out) (keep-within path g (length out) h, tt) f)
+kept-closes path ps g out u h f =
+    rw (keep-out path ps g out h) (stored-closes (Stroke Second) g ps (pathOf path) (drop (length (outlineBytes (Stroke Second) g ps (pathOf path))) out) (keep-within path ps g (length out) h, u) f)

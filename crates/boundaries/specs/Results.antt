@@ -10,10 +10,11 @@ use Rattle.paths.specs.Paths.{pathOf, Within}
 use Rattle.words.specs.Words.{numberOf, wordsIn, wordAt}
 use Rattle.outline.specs.Layout.{edgeBytes}
 use Rattle.contacts.specs.declared.Vertex.{Vertex}
-use Rattle.outline.specs.Theorems.{Formed}
+use Rattle.outline.specs.Theorems.{Suits, Formed}
+use Rattle.outline.specs.declared.Edition.the-variants.{Second}
 use Rattle.outline.specs.declared.Form.{Form}
 use Rattle.outline.specs.declared.Form.the-variants.{Stroke, Kerb}
-use Rattle.outline.specs.Stores.{formIn, gradeIn, lengthIn, pathIn, soundOf}
+use Rattle.outline.specs.Stores.{formIn, gradeIn, lengthIn, pathIn, postsIn, soundOf}
 use Rattle.drawing.specs.Drawing.{drawReply, drawOut}
 use Rattle.kerb_drawing.specs.KerbDrawing.{drawKerbReply, drawKerbOut}
 use Rattle.keeping.specs.Keeping.{keepReply, keepOut}
@@ -52,7 +53,7 @@ storedEdges store =
 
 -- The exception is a stroke's alone.
 unfoldable pub strayIn : Form → List Vertex → Bool
-strayIn Stroke vs = strayOf vs
+strayIn (Stroke e) vs = strayOf vs
 strayIn (Kerb y) vs = false
 
 -- In a sound store of either kind they are as many as its header says and close, with the same exception; and so it is in what keep wrote.
@@ -60,7 +61,8 @@ abbrev pub StoredCloses : List ℕ → Type 0
 StoredCloses s = (length (storedEdges s) ≡ wordAt s 4) × Balanced (storedEdges s)
 
 abbrev pub SoundCloses : Type 0
-SoundCloses = (s : List ℕ) → Formed (formIn s) (gradeIn s) (pathIn s) → soundOf s ≡ true → strayIn (formIn s) (pathIn s) ≡ false → StoredCloses s
+SoundCloses = (s : List ℕ) → Formed (formIn s) (gradeIn s) (postsIn s) (pathIn s) → soundOf s ≡ true → strayIn (formIn s) (pathIn s) ≡ false → StoredCloses s
 
 abbrev pub KeptCloses : Type 0
-KeptCloses = (path : List ℤ) (g : ℕ) (out : List ℕ) → keepReply path g (length out) .0 ≡ 0 → strayOf (pathOf path) ≡ false → StoredCloses (keepOut path g out)
+KeptCloses = (path : List ℤ) (ps : List ℕ) (g : ℕ) (out : List ℕ) → Suits (Stroke Second) ps (pathOf path) → keepReply path ps g (length out) .0 ≡ 0 → strayOf (pathOf path) ≡ false
+    → StoredCloses (keepOut path ps g out)

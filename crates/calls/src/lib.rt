@@ -2,9 +2,10 @@
 use contacts::Vertex;
 ghost use Rattle.drawing.specs.Drawing.{Draws};
 ghost use Rattle.kerb_drawing.specs.KerbDrawing.{DrawsKerb};
-ghost use Rattle.keeping.specs.Keeping.{Keeps};
+ghost use Rattle.keeping.specs.Keeping.{plainPosts, Keeps};
 ghost use Rattle.kerb_keeping.specs.KerbKeeping.{KeepsKerb};
 ghost use Rattle.reading.specs.Reading.{Reads};
+ghost use Rattle.reading.specs.PostsReading.{ReadsPosts};
 ghost use Rattle.editing.specs.Replacing.{Replaces};
 ghost use Rattle.reaching.specs.Replies.{Reaches};
 
@@ -31,7 +32,7 @@ pub fn draw_kerb(
 
 // Keeps a path's outline as bytes.
 pub fn keep(path: &[i32], grade: u32, out: &mut [u8]) -> keeping::Kept
-    ensures { λ r. ⌜ Keeps (now (path .entry)) grade (now (out .entry)) r (now (out .exit)) ⌝ }
+    ensures { λ r. ⌜ Keeps (now (path .entry)) (plainPosts (now (path .entry))) grade (now (out .entry)) r (now (out .exit)) ⌝ }
 {
     let mut own = [0i32; 36908];
     keeping::keep_with(path, grade, &mut own, out)
@@ -61,18 +62,28 @@ pub fn read(store: &[u8], out: &mut [i32]) -> reading::Read
     reading::read_with(store, out, &mut path, &mut own)
 }
 
+// Reads the posts of a sound outline of a stroke, its vertices' point numbers, into lent numbers.
+pub fn numbers(store: &[u8], out: &mut [u32]) -> reading::posts::PostsRead
+    ensures { λ r. ⌜ ReadsPosts (now (store .entry)) (now (out .entry)) r (now (out .exit)) ⌝ }
+{
+    let mut path = [0i32; 12288];
+    let mut own = [0i32; 36908];
+    reading::posts::posts_with(store, out, &mut path, &mut own)
+}
+
 // Replaces a vertex of a sound outline, in place.
 pub fn replace(store: &mut [u8], index: usize, x: i32, y: i32, radius: i32) -> editing::Replaced
     ensures { λ r. ⌜ Replaces (now (store .entry)) index (record { x = x; y = y; radius = radius }) r (now (store .exit)) ⌝ }
 {
     let mut path = [0i32; 12288];
+    let mut posts = [0u32; 4096];
     let mut own = [0i32; 36908];
     let v = Vertex {
         x: x as i64,
         y: y as i64,
         radius: radius as i64,
     };
-    editing::replacing::replace_with(store, index, v, &mut path, &mut own)
+    editing::replacing::replace_with(store, index, v, &mut path, &mut posts, &mut own)
 }
 
 // Tells how far replacing a vertex of a sound outline can reach.

@@ -5,10 +5,11 @@ use mathlib.Core.List.{List, _++_, _∷_}
 use Prim.Native.Nat.{ℕ}
 use Rattle.contacts.specs.declared.Vertex.{Vertex}
 use Rattle.kerb.specs.declared.Style.{Style}
-use Rattle.paths.specs.Paths.{Within}
+use Rattle.outline.specs.Theorems.{Formed}
 use Rattle.outline.specs.Layout.{kindWord}
 use Rattle.outline.specs.Outlines.{headerOf, partsWords, outlineWords, outlineBytes}
-use Rattle.outline.specs.Stores.{kindIn, formIn}
+use Rattle.outline.specs.Stores.{editionIn, kindIn, editionOf, formIn}
+use Rattle.outline.specs.declared.Edition.{Edition}
 use Rattle.outline.specs.declared.Form.{Form}
 use Rattle.outline.specs.declared.Form.the-variants.{Stroke, Kerb}
 use Rattle.outline.proofs.ReadBack.{header-word}
@@ -22,7 +23,7 @@ module _ {s : List ℕ} {h : Header} (H : Head s h) where
   kind-of e = H .headed .kind ∙ ap kindWord (sym (H .form) ∙ e)
 
   -- of a stroke it fails, of a kerb it is the reply
-  pub stroke-passes : (rows : List Row) (last : Reply) → h .form ≡ Stroke → firstRow (otherKindRow s ∷ rows) last ≡ firstRow rows last
+  pub stroke-passes : (rows : List Row) (last : Reply) {e : Edition} → h .form ≡ Stroke e → firstRow (otherKindRow s ∷ rows) last ≡ firstRow rows last
   unfolding firstRow otherKindRow
   stroke-passes rows last e = rw (kind-of e, firstRow)
 
@@ -31,11 +32,11 @@ module _ {s : List ℕ} {h : Header} (H : Head s h) where
   kerb-refused rows last e = rw (kind-of e, firstRow) (ap (λ (n : ℕ). (12, n)) (sym (kind-of e)))
 
 -- where it failed a store is of a stroke
-pub not-other : (s : List ℕ) → otherKindRow s .0 ≡ false → formIn s ≡ Stroke
+pub not-other : (s : List ℕ) → otherKindRow s .0 ≡ false → formIn s ≡ Stroke (editionOf (editionIn s))
 unfolding formIn otherKindRow
 not-other s e = rw (e, formIn)
 
 -- and of what is kept of a stroke it fails
-pub kept-stroke : (g : ℕ) (vs : List Vertex) (rest : List ℕ) → Within g vs → otherKindRow (outlineBytes Stroke g vs ++ rest) .0 ≡ false
+pub kept-stroke : (e : Edition) (g : ℕ) (ps : List ℕ) (vs : List Vertex) (rest : List ℕ) → Formed (Stroke e) g ps vs → otherKindRow (outlineBytes (Stroke e) g ps vs ++ rest) .0 ≡ false
 unfolding otherKindRow kindIn outlineWords partsWords headerOf
-kept-stroke g vs rest h = rw (header-word Stroke g vs rest (h, tt) 1) refl
+kept-stroke e g ps vs rest h = rw (header-word (Stroke e) g ps vs rest h 1) refl

@@ -1,6 +1,6 @@
 -- What the rows of a store say to whoever reads it on: a refusal is the reply, and of a store that passed the header is known. Assumes nothing.
 use mathlib.Core.Path.{_≡_, refl, sym, ap, _∙_}
-use mathlib.Core.List.{List, _++_}
+use mathlib.Core.List.{List, [], _++_}
 use Prim.Native.Nat.{ℕ, _-_, _*_, _≤_}
 use native.Mathlib.Nat.{sub-zero}
 use native.Mathlib.Omega.{arith}
@@ -12,7 +12,8 @@ use Rattle.turning.specs.Bounds.{Radius}
 use Rattle.kerb.specs.declared.Style.{Style}
 use Rattle.outline.specs.Layout.{headerWords, frontBytes, lengthOf}
 use Rattle.words.specs.Words.{wordsIn}
-use Rattle.outline.specs.Stores.{formIn, lengthIn, pathIn}
+use Rattle.outline.specs.Stores.{formIn, lengthIn, pathIn, postsOf}
+use Rattle.outline.specs.declared.Edition.{Edition}
 use Rattle.outline.specs.declared.Form.{Form}
 use Rattle.outline.specs.declared.Form.the-variants.{Stroke, Kerb}
 use Rattle.outline.proofs.ReadBack.{path-count-in}
@@ -20,7 +21,9 @@ use Rattle.replies.specs.Replies.{Reply, Row, firstRow}
 use Rattle.replies.specs.Refusals.{refusalOf}
 use Rattle.replies.specs.declared.Refusal.{Refusal}
 use Rattle.replies.proofs.Rows.{rows-append}
-use Rattle.comparing.specs.Compares.{lentPath}
+use Rattle.comparing.specs.Compares.{lentPath, Agrees}
+use Rattle.comparing.specs.declared.Compared.{Compared}
+use Rattle.contacts.specs.declared.Vertex.{Vertex}
 use Rattle.heading.specs.Heads.{orStore, Head}
 use Rattle.heading.specs.Shows.{lentNumbers, lentWidth, shownIn, shownPath}
 use Rattle.heading.specs.StoreRows.{storeRows}
@@ -41,15 +44,19 @@ store-refuses {s} more last a e = sym (rows-append (storeRows s) more last ∙ a
 pub store-passes : {s : List ℕ} {h : Header} (more : List Row) (last : Reply) → Sound s h → firstRow (storeRows s ++ more) last ≡ firstRow more last
 store-passes {s} more last a = rows-append (storeRows s) more last ∙ a .passed (firstRow more last)
 
+-- a kerb has no posts
+pub kerb-agrees : {s : List ℕ} {y : Style} {g : ℕ} {vs : List Vertex} {r : Compared} (n : ℕ) → Agrees s (Kerb y) g [] vs r → Agrees s (Kerb y) g (postsOf (Kerb y) n s) vs r
+kerb-agrees n h = record { table = h .table; bodies = h .bodies }
+
 -- ---- what a header says of its store
 
 width-few : (f : Form) (n : ℕ) → n ≤ 4096 → lentWidth f * n ≤ 12288
-width-few Stroke n h = omega arith
+width-few (Stroke e) n h = omega arith
 width-few (Kerb y) n h = omega arith
 
 lent-back : (f : Form) (n : ℕ) (ws : List ℕ) → lentPath f (spread (lentNumbers f) (shownIn f n ws)) ≡ shownIn f n ws
 unfolding pathNumbers
-lent-back Stroke n ws = path-back (shownIn Stroke n ws)
+lent-back (Stroke e) n ws = path-back (shownIn (Stroke e) n ws)
 lent-back (Kerb y) n ws = points-back y n ws
 
 module _ {s : List ℕ} {h : Header} (H : Head s h) where
@@ -87,8 +94,11 @@ module _ {s : List ℕ} {h : Header} (H : Head s h) where
         ∙ shown-is
 
   -- by the form
-  pub stroke-told : h .form ≡ Stroke → Stroke ≡ formIn s
+  pub stroke-told : {e : Edition} → h .form ≡ Stroke e → Stroke e ≡ formIn s
   stroke-told e = sym e ∙ H .form
+
+  pub stroke-front : (e : Edition) → h .form ≡ Stroke e → frontBytes (Stroke e) (h .n) ≤ length s
+  stroke-front e q = rw q at header-long
 
   module _ {y : Style} (e : h .form ≡ Kerb y) where
     pub kerb-told : Kerb y ≡ formIn s
@@ -98,7 +108,7 @@ module _ {s : List ℕ} {h : Header} (H : Head s h) where
     kerb-radius = rw e at (H .within)
 
   module _ (l : List ℤ) (p : lentPath (h .form) l ≡ shownPath s) where
-    pub stroke-lent : h .form ≡ Stroke → lentPath Stroke l ≡ shownPath s
+    pub stroke-lent : {e : Edition} → h .form ≡ Stroke e → lentPath (Stroke e) l ≡ shownPath s
     stroke-lent e = rw e at p
 
     pub kerb-lent : {y : Style} → h .form ≡ Kerb y → lentPath (Kerb y) l ≡ shownPath s

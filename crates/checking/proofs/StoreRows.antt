@@ -17,7 +17,7 @@ use Rattle.contacts.specs.declared.Vertex.{Vertex}
 use Rattle.words.specs.Words.{wordsIn}
 use Rattle.outline.specs.Layout.{headerWords}
 use Rattle.outline.specs.Outlines.{outlineBytes}
-use Rattle.outline.specs.Stores.{formIn, gradeIn, countIn, pathIn, dueIn, firstDiffering, differingIn}
+use Rattle.outline.specs.Stores.{formIn, gradeIn, countIn, pathIn, postsOf, postsIn, dueIn, firstDiffering, differingIn}
 use Rattle.outline.specs.declared.Form.{Form}
 use Rattle.outline.proofs.ReadBack.{path-count-in}
 use Rattle.replies.specs.Replies.{Reply, firstRow, outsideRow}
@@ -78,16 +78,20 @@ module _ {s : List ℕ} {h : Header} {vs : List Vertex} (H : Head s h) (P : vs �
     pub within-is : Within (h .grade) vs
     within-is = rw (H .grade, same-path) within
 
-    module _ {f : Form} {c : Compared} {d : ℕ} (F : f ≡ formIn s) (q : Agrees s f (h .grade) vs c) (D : d ≡ firstDiffering s (outlineBytes f (h .grade) vs)) where
-      due-is : outlineBytes f (h .grade) vs ≡ dueIn s
+    module _ {f : Form} {c : Compared} {d : ℕ} (F : f ≡ formIn s) {ps : List ℕ} (S : ps ≡ postsOf f (h .n) s) (q : Agrees s f (h .grade) ps vs c) (D : d ≡ firstDiffering s (outlineBytes f (h .grade) ps vs)) where
+      posts-are : ps ≡ postsIn s
+      unfolding postsIn
+      posts-are = S ∙ (λ i. postsOf (F i) (H .vertices i) s)
+
+      due-is : outlineBytes f (h .grade) ps vs ≡ dueIn s
       unfolding dueIn
-      due-is = λ i. outlineBytes (F i) (H .grade i) (same-path i)
+      due-is = λ i. outlineBytes (F i) (H .grade i) (posts-are i) (same-path i)
 
       differs : d ≡ firstDiffering s (dueIn s)
       differs = D ∙ ap (firstDiffering s) due-is
 
       ends : c .end ≡ length (dueIn s)
-      ends = end-is f (h .grade) vs q ∙ ap length due-is
+      ends = end-is f (h .grade) ps vs q ∙ ap length due-is
 
       none : ltb (firstOutside (pathIn s)) (length (pathIn s)) ≡ false
       none = le-ltb (firstOutside (pathIn s)) (length (pathIn s)) (omega (arith, inside-is))

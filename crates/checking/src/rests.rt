@@ -7,6 +7,7 @@ use heading::shows::show_path;
 use heading::shows::width;
 use kerb::Style;
 use kerb_comparing::compare_kerb;
+use outline::Edition;
 use outline::Form;
 use paths::paths::first_outside;
 use replies::Refusal;
@@ -23,8 +24,8 @@ ghost use Rattle.heading.specs.Heads.{Head};
 ghost use Rattle.checking.specs.StoreChecks.{RestSays};
 
 // The rows past a stroke's header, over its vertices as numbers.
-fn check_vertices(path: &[i32], s: &[u8], h: Header, own: &mut [i32]) -> Checked
-    requires { ⌜ Head (now s) h × (h .form ≡ Stroke) × (pathOf (now path) ≡ shownPath (now s)) × (36908 ≤ length (now own)) ⌝ }
+fn check_vertices(path: &[i32], s: &[u8], h: Header, edition: Edition, own: &mut [i32]) -> Checked
+    requires { ⌜ Head (now s) h × (h .form ≡ Stroke edition) × (pathOf (now path) ≡ shownPath (now s)) × (36908 ≤ length (now own)) ⌝ }
     ensures { λ r. ⌜ RestSays (now (s .entry)) r ⌝ }
 {
     let n = h.n;
@@ -33,8 +34,8 @@ fn check_vertices(path: &[i32], s: &[u8], h: Header, own: &mut [i32]) -> Checked
     if bad < n {
         return Checked::Refused(Refusal::Outside(bad));
     }
-    let c = compare(path, n, grade, own, s);
-    let d = first_difference(path, s, Form::Stroke, grade, n, c);
+    let c = compare(path, n, edition, grade, own, s);
+    let d = first_difference(path, s, Form::Stroke(edition), grade, n, c);
     if d < c.end {
         return Checked::Refused(Refusal::NotSound(d));
     }
@@ -67,7 +68,7 @@ fn check_shown(path: &[i32], s: &[u8], h: Header, own: &mut [i32]) -> Checked
 {
     let form = h.form;
     match form {
-        Form::Stroke => check_vertices(path, s, h, own),
+        Form::Stroke(e) => check_vertices(path, s, h, e, own),
         Form::Kerb(y) => check_points(path, s, h, y, own),
     }
 }

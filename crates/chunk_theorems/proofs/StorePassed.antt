@@ -12,10 +12,10 @@ use Rattle.outline.specs.Stores.{formIn, countIn, lengthIn, dueIn, soundOf}
 use Rattle.outline.specs.declared.Form.{Form}
 use Rattle.outline.specs.declared.Form.the-variants.{Stroke, Kerb}
 use Rattle.replies.specs.StyleRows.{styleRow}
-use Rattle.heading.specs.StoreRows.{editionRow, kindRow, shortRow, styleRowIn, lengthRow, soundRow, storeRows}
+use Rattle.heading.specs.StoreRows.{editionRow, kindRow, unfitRow, styleRowIn, lengthRow, soundRow, storeRows}
 use Rattle.chunk_adding.specs.Adding.{ownBytes}
 use Rattle.replies.proofs.Rows.{NoneHold, Coded, rows-append, none-last, first-none}
-use Rattle.comparing.proofs.FirstByte.{same-is}
+use Rattle.outline.proofs.ReadBack.{same-is}
 
 -- rows after rows: where the reply is 0 none of the first holds, and the others reply
 pub rows-zero : (rs qs : List Row) (last : Reply) → Coded rs → firstRow (rs ++ qs) last .0 ≡ 0 → NoneHold rs × (firstRow (rs ++ qs) last ≡ firstRow qs last)
@@ -25,7 +25,7 @@ rows-zero rs qs last k e =
     (n, a ∙ none-last rs (firstRow qs last) n)
 
 pub store-coded : (s : List ℕ) → Coded (storeRows s)
-unfolding storeRows editionRow kindRow shortRow gradeRow styleRowIn styleRow countRow lengthRow outsideRow soundRow
+unfolding storeRows editionRow kindRow unfitRow gradeRow styleRowIn styleRow countRow lengthRow outsideRow soundRow
 store-coded s = (refl, (refl, (refl, (refl, (refl, (refl, (refl, (refl, (refl, tt)))))))))
 
 module _ (s : List ℕ) (h : NoneHold (storeRows s)) where
@@ -39,7 +39,7 @@ module _ (s : List ℕ) (h : NoneHold (storeRows s)) where
 
 -- an outline has a header
 length-some : (f : Form) (n m : ℕ) → 0 < lengthOf f n m
-length-some Stroke n m = omega arith
+length-some (Stroke e) n m = omega arith
 length-some (Kerb y) n m = omega arith
 
 pub outline-some : (s : List ℕ) → 0 < lengthIn s

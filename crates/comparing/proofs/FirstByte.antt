@@ -7,7 +7,7 @@ use native.Mathlib.Nat.{add-zero, zero-add}
 use native.Mathlib.Omega.{arith}
 use borrow.Author.Tests.{eqb-true, eqb-false, ltb-true, ltb-false}
 use lib.Dec.{eqb, ltb}
-use lib.ListN.{length, getD, take, drop, take-append-drop, drop-of-length-le}
+use lib.ListN.{length, getD, take, drop, drop-of-length-le}
 use lib.Seq.{drop-cons}
 use Rattle.runs.specs.Runs.{spread, over, Runs, agree}
 use Rattle.runs.proofs.Laws.{runs-all, runs-then}
@@ -20,9 +20,10 @@ use Rattle.outline.specs.Stores.{lengthIn, dueIn, sameBytes, soundOf, firstDiff
 use Rattle.outline.specs.Theorems.{FormWithin, Headed}
 use Rattle.comparing.specs.Compares.{Agrees}
 use Rattle.comparing.specs.declared.Compared.{Compared}
-use Rattle.outline.proofs.ReadBack.{outline-length}
+use Rattle.outline.proofs.ReadBack.{outline-length, sound-is}
 use Rattle.outline.proofs.Differing.{first-append, differing-inside}
 use Rattle.outline.proofs.Parts.{stroke-style, bodies-bytes}
+use Rattle.outline.specs.declared.Edition.{Edition}
 use Rattle.outline.specs.declared.Form.{Form}
 use Rattle.outline.specs.declared.Form.the-variants.{Stroke, Kerb}
 use Rattle.kerb.specs.declared.Style.{Style}
@@ -76,8 +77,8 @@ module _ (s : List ℕ) {xs : List ℕ} (ys : List ℕ) {i f h : ℕ} (p : Runs 
 -- ---- a form's header, from what the code has
 
 module _ (s : List ℕ) {ok : ℕ} {form : Form} where
-  pub rest-stroke : form ≡ Stroke → Runs (agree s) fourBytes ok 20 (styleWords form) ok (headerBytes form)
-  rest-stroke e = rw e stroke-style
+  pub rest-stroke : {e : Edition} → form ≡ Stroke e → Runs (agree s) fourBytes ok 20 (styleWords form) ok (headerBytes form)
+  rest-stroke {e} q = rw q (stroke-style e)
 
   pub rest-kerb : {y : Style} {r : ℕ} → form ≡ Kerb y → Runs (agree s) fourBytes ok 20 (styleWords (Kerb y)) r 32 → Runs (agree s) fourBytes ok 20 (styleWords form) r (headerBytes form)
   rest-kerb e p = rw e p
@@ -103,33 +104,33 @@ module _ (s : List ℕ) (p : Parts) {f h t b d e : ℕ}
   parts-bodies l k = bodies .out ∙ differs-past s _ table k ∙ differs-past s _ header l ∙ parts-first
 
 -- those of a path: k is how far the header agrees
-module _ (s : List ℕ) (f : Form) (g : ℕ) (vs : List Vertex) {n m k b : ℕ} {c : Compared} (en : n ≡ length vs) (em : m ≡ length (edgesFor f g vs)) (eb : b ≡ frontBytes f n)
-    (p : Runs (agree s) fourBytes 0 0 (headerOf f g n m) k (headerBytes f)) (q : Agrees s f g vs c) where
+module _ (s : List ℕ) (f : Form) (g : ℕ) (ps : List ℕ) (vs : List Vertex) {n m k b : ℕ} {c : Compared} (en : n ≡ length vs) (em : m ≡ length (edgesFor f g vs)) (eb : b ≡ frontBytes f n)
+    (p : Runs (agree s) fourBytes 0 0 (headerOf f g n m) k (headerBytes f)) (q : Agrees s f g ps vs c) where
   head : Runs (agree s) fourBytes 0 0 (headerOf f g (length vs) (length (edgesFor f g vs))) k (headerBytes f)
   head = rw (en, em) at p
 
-  pub first-head : k < headerBytes f → k ≡ firstDiffering s (outlineBytes f g vs)
+  pub first-head : k < headerBytes f → k ≡ firstDiffering s (outlineBytes f g ps vs)
   unfolding outlineBytes outlineWords
-  first-head l = parts-header s (partsOf f g vs) head (q .table) (q .bodies) l
+  first-head l = parts-header s (partsOf f g ps vs) head (q .table) (q .bodies) l
 
-  pub first-table : headerBytes f ≤ k → c .table < b → c .table ≡ firstDiffering s (outlineBytes f g vs)
+  pub first-table : headerBytes f ≤ k → c .table < b → c .table ≡ firstDiffering s (outlineBytes f g ps vs)
   unfolding outlineBytes outlineWords
-  first-table l i = parts-table s (partsOf f g vs) head (q .table) (q .bodies) l (rw (eb, en) at i)
+  first-table l i = parts-table s (partsOf f g ps vs) head (q .table) (q .bodies) l (rw (eb, en) at i)
 
-  pub first-bodies : headerBytes f ≤ k → b ≤ c .table → c .bodies ≡ firstDiffering s (outlineBytes f g vs)
+  pub first-bodies : headerBytes f ≤ k → b ≤ c .table → c .bodies ≡ firstDiffering s (outlineBytes f g ps vs)
   unfolding outlineBytes outlineWords
-  first-bodies l i = parts-bodies s (partsOf f g vs) head (q .table) (q .bodies) l (rw (eb, en) at i)
+  first-bodies l i = parts-bodies s (partsOf f g ps vs) head (q .table) (q .bodies) l (rw (eb, en) at i)
 
 -- where the bodies that are due end, so does the outline
-module _ {s : List ℕ} (f : Form) (g : ℕ) (vs : List Vertex) {c : Compared} (q : Agrees s f g vs c) where
+module _ {s : List ℕ} (f : Form) (g : ℕ) (ps : List ℕ) (vs : List Vertex) {c : Compared} (q : Agrees s f g ps vs c) where
   pub end-edges : {n b : ℕ} → n ≡ length vs → b ≡ frontBytes f n → (c .end - b) / 16 ≡ length (edgesFor f g vs)
   end-edges en eb = omega (arith, eb ∙ ap (frontBytes f) en, q .bodies .pos, bodies-bytes (edgesFor f g vs))
 
   pub end-past : {n b : ℕ} → n ≡ length vs → b ≡ frontBytes f n → b ≤ c .end
   end-past en eb = omega (arith, eb ∙ ap (frontBytes f) en, q .bodies .pos)
 
-  pub end-is : c .end ≡ length (outlineBytes f g vs)
-  end-is = omega (arith, q .bodies .pos, bodies-bytes (edgesFor f g vs), outline-length f g vs)
+  pub end-is : c .end ≡ length (outlineBytes f g ps vs)
+  end-is = omega (arith, q .bodies .pos, bodies-bytes (edgesFor f g vs), outline-length f g ps vs)
 
 -- ---- a store that passed its header is sound just where it differs nowhere
 
@@ -145,17 +146,6 @@ first-take (suc n) (a ∷ l) (b ∷ m) h = go (eqb a b) h (first-take n l m)
     go true k r = ap suc (r (omega arith))
     go false k r = refl
 
-pub same-is : (l m : List ℕ) → sameBytes l m ≡ true → l ≡ m
-unfolding sameBytes
-same-is [] [] e = refl
-same-is [] (b ∷ m) e = absurd (true≢false (sym e))
-same-is (a ∷ l) [] e = absurd (true≢false (sym e))
-same-is (a ∷ l) (b ∷ m) e = go (eqb a b) refl e (same-is l m)
-  where
-    go : (t : Bool) → eqb a b ≡ t → elim t [ true ↦ sameBytes l m | false ↦ false ] ≡ true → (sameBytes l m ≡ true → l ≡ m) → a ∷ l ≡ b ∷ m
-    go true f k r = λ i. eqb-true a b f i ∷ r k i
-    go false f k r = absurd (true≢false (sym k))
-
 first-whole : (m r : List ℕ) → firstDiffering (m ++ r) m ≡ length m
 unfolding firstDiffering
 first-whole m r = ap (firstDiffering (m ++ r)) (sym (append-nil m)) ∙ first-append m r [] ∙ ap (λ k. length m + k) (nothing r) ∙ add-zero (length m)
@@ -165,10 +155,8 @@ first-whole m r = ap (firstDiffering (m ++ r)) (sym (append-nil m)) ∙ first-ap
     nothing (a ∷ l) = refl
 
 sound-whole : (s : List ℕ) → soundOf s ≡ true → firstDiffering s (dueIn s) ≡ length (dueIn s)
-unfolding soundOf
 sound-whole s e =
-    let d : take (lengthIn s) s ≡ dueIn s = same-is (take (lengthIn s) s) (dueIn s) e in
-    ap (λ l. firstDiffering l (dueIn s)) (sym (take-append-drop (lengthIn s) s) ∙ ap (λ l. l ++ drop (lengthIn s) s) d) ∙ first-whole (dueIn s) (drop (lengthIn s) s)
+    ap (λ l. firstDiffering l (dueIn s)) (sound-is s e) ∙ first-whole (dueIn s) (drop (lengthIn s) s)
 
 unsound-first : (s : List ℕ) → Headed s → soundOf s ≡ false → (differingIn s ≡ firstDiffering s (dueIn s)) × (firstDiffering s (dueIn s) < length (dueIn s))
 unfolding differingIn

@@ -1,10 +1,12 @@
-// A store compared with the outline that its own vertices give, in one walk: the table and the bodies go on side by side.
+// A store compared with the outline that its own vertices and posts give, in one walk: the table and the bodies go on side by side.
 use crate::Compared;
 use contacts::Vertex;
+use outline::Edition;
 use outline::Form;
-use outline::layout::ENTRY;
 use outline::layout::HEADER;
+use outline::layout::entry_bytes;
 use outline::layout::front;
+use outline::posts::post_at;
 use paths::paths::vertex;
 use plane::Vector;
 use plane::direction::step;
@@ -15,14 +17,15 @@ use words::wide_bits;
 ghost use mathlib.Core.Path.{_≡_};
 ghost use Prim.Native.Nat.{_+_, _*_, _^_, _≤_, _<_};
 ghost use lib.ListN.{length};
-ghost use Rattle.runs.specs.Runs.{Runs, agree};
+ghost use Rattle.runs.specs.Runs.{spread, Runs, agree};
 ghost use Rattle.plane.specs.Directions.{UnitLong};
 ghost use Rattle.contacts.specs.Bounds.{Inside};
 ghost use Rattle.variable_stroke.specs.Bounds.{AroundWalk};
 ghost use Rattle.paths.specs.Paths.{pathOf, Within};
-ghost use Rattle.outline.specs.Layout.{entryBytes};
+ghost use Rattle.outline.specs.Layout.{strokeBytes, frontBytes};
 ghost use Rattle.words.specs.Words.{fourBytes};
-ghost use Rattle.outline.specs.Outlines.{entryOf};
+ghost use Rattle.outline.specs.Outlines.{postWords, entryOf};
+ghost use Rattle.outline.specs.Stores.{postsOf};
 ghost use Rattle.outline.specs.declared.Form.the-variants.{Stroke};
 ghost use Rattle.comparing.specs.Compares.{StepAgrees, EndAgrees, Agrees};
 
@@ -35,31 +38,60 @@ pub struct Comparing {
     pub at: usize,
 }
 
+// A post, where the edition has one.
+fn same_post(s: &[u8], ok: usize, at: usize, edition: Edition, post: u32) -> usize
+    requires { ⌜ at + 4 < 2 ^ 64 ⌝ }
+    ensures { λ r. ⌜ Runs (agree (now (s .entry))) fourBytes ok at (postWords edition post) r (at + length (spread fourBytes (postWords edition post))) ⌝ }
+{
+    match edition {
+        Edition::First => ok,
+        Edition::Second => same_word(s, ok, at, post),
+    }
+}
+
 // An entry of the table.
-pub fn same_entry(s: &[u8], ok: usize, at: usize, v: Vertex, count: u32) -> usize
+pub fn same_entry(
+    s: &[u8],
+    ok: usize,
+    at: usize,
+    edition: Edition,
+    v: Vertex,
+    post: u32,
+    count: u32,
+) -> usize
     requires { ⌜ Inside v ⌝ }
-    requires { ⌜ at + entryBytes Stroke < 2 ^ 64 ⌝ }
-    ensures { λ r. ⌜ Runs (agree (now (s .entry))) fourBytes ok at (entryOf v count) r (at + entryBytes Stroke) ⌝ }
+    requires { ⌜ at + strokeBytes edition < 2 ^ 64 ⌝ }
+    ensures { λ r. ⌜ Runs (agree (now (s .entry))) fourBytes ok at (entryOf edition v post count) r (at + strokeBytes edition) ⌝ }
 {
     let a = same_word(s, ok, at, wide_bits(v.x));
     let b = same_word(s, a, at + 4, wide_bits(v.y));
     let c = same_word(s, b, at + 8, wide_bits(v.radius));
-    same_word(s, c, at + 12, count)
+    let d = same_post(s, c, at + 12, edition, post);
+    let last = entry_bytes(edition) - 4;
+    same_word(s, d, at + last, count)
 }
 
 // A step to v: the edges emitted on the way stand in `own` while they are compared.
-pub fn compare_step(c: Comparing, t: Vector, v: Vertex, own: &mut [i32], s: &[u8]) -> Comparing
+pub fn compare_step(
+    c: Comparing,
+    edition: Edition,
+    t: Vector,
+    v: Vertex,
+    post: u32,
+    own: &mut [i32],
+    s: &[u8],
+) -> Comparing
     requires { ⌜ UnitLong t × AroundWalk (c .walk) × Inside v × (36908 ≤ length (now own)) ⌝ }
-    requires { ⌜ (c .entry + entryBytes Stroke < 2 ^ 64) × (c .at + 147632 < 2 ^ 64) ⌝ }
-    ensures { λ r. ⌜ StepAgrees t (now (s .entry)) c v r ⌝ }
+    requires { ⌜ (c .entry + strokeBytes edition < 2 ^ 64) × (c .at + 147632 < 2 ^ 64) ⌝ }
+    ensures { λ r. ⌜ StepAgrees edition t (now (s .entry)) c v post r ⌝ }
 {
     let walk = c.walk;
     let w = walk.step(own, 0, t, v);
     let n = w.at;
     let next = w.walk;
-    let table = same_entry(s, c.table, c.entry, v, (n / 4) as u32);
+    let table = same_entry(s, c.table, c.entry, edition, v, post, (n / 4) as u32);
     let bodies = same_numbers(own, n, s, c.bodies, c.at);
-    let entry = c.entry + ENTRY;
+    let entry = c.entry + entry_bytes(edition);
     let at = c.at + 4 * n;
     Comparing {
         walk: next,
@@ -85,11 +117,19 @@ pub fn compare_end(c: Comparing, t: Vector, own: &mut [i32], s: &[u8]) -> Compar
 }
 
 // The whole table and all bodies.
-pub fn compare(path: &[i32], n: usize, grade: u32, own: &mut [i32], s: &[u8]) -> Compared
+pub fn compare(
+    path: &[i32],
+    n: usize,
+    edition: Edition,
+    grade: u32,
+    own: &mut [i32],
+    s: &[u8],
+) -> Compared
     requires { ⌜ (n ≡ length (pathOf (now path))) × Within grade (pathOf (now path)) × (36908 ≤ length (now own)) ⌝ }
-    ensures { λ r. ⌜ Agrees (now (s .entry)) Stroke grade (pathOf (now (path .entry))) r ⌝ }
+    requires { ⌜ frontBytes (Stroke edition) n ≤ length (now s) ⌝ }
+    ensures { λ r. ⌜ Agrees (now (s .entry)) (Stroke edition) grade (postsOf (Stroke edition) n (now (s .entry))) (pathOf (now (path .entry))) r ⌝ }
 {
-    let base = front(Form::Stroke, n);
+    let base = front(Form::Stroke(edition), n);
     if n == 0 {
         let none = same_word(s, HEADER, HEADER, 0);
         return Compared {
@@ -100,8 +140,8 @@ pub fn compare(path: &[i32], n: usize, grade: u32, own: &mut [i32], s: &[u8]) ->
     }
     let t = step(grade);
     let a = vertex(path, 0);
-    let first = same_entry(s, HEADER, HEADER, a, 0);
-    let second = HEADER + ENTRY;
+    let first = same_entry(s, HEADER, HEADER, edition, a, post_at(s, edition, 0), 0);
+    let second = HEADER + entry_bytes(edition);
     let mut c = Comparing {
         walk: Walk::new(a),
         table: first,
@@ -111,7 +151,9 @@ pub fn compare(path: &[i32], n: usize, grade: u32, own: &mut [i32], s: &[u8]) ->
     };
     let mut k: usize = 1;
     while k < n {
-        c = compare_step(c, t, vertex(path, k), own, s);
+        let v = vertex(path, k);
+        let p = post_at(s, edition, k);
+        c = compare_step(c, edition, t, v, p, own, s);
         k += 1;
     }
     compare_end(c, t, own, s)

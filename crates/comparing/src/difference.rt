@@ -3,8 +3,8 @@ use crate::Compared;
 use kerb::Style;
 use outline::Form;
 use outline::layout::EDGE;
-use outline::layout::FIRST_EDITION;
 use outline::layout::closed_word;
+use outline::layout::edition_word;
 use outline::layout::front;
 use outline::layout::header_bytes;
 use outline::layout::join_word;
@@ -19,7 +19,7 @@ ghost use Rattle.turning.specs.Bounds.{Radius};
 ghost use Rattle.words.specs.Words.{fourBytes};
 ghost use Rattle.outline.specs.Layout.{headerBytes};
 ghost use Rattle.outline.specs.Outlines.{styleWords, headerOf, outlineBytes};
-ghost use Rattle.outline.specs.Stores.{firstDiffering};
+ghost use Rattle.outline.specs.Stores.{postsOf, firstDiffering};
 ghost use Rattle.outline.specs.Theorems.{FormWithin};
 ghost use Rattle.outline.specs.declared.Form.the-variants.{Kerb};
 ghost use Rattle.comparing.specs.Compares.{lentPath, Agrees};
@@ -41,7 +41,7 @@ fn same_rest(s: &[u8], ok: usize, form: Form) -> usize
     ensures { λ r. ⌜ Runs (agree (now (s .entry))) fourBytes ok 20 (styleWords form) r (headerBytes form) ⌝ }
 {
     match form {
-        Form::Stroke => ok,
+        Form::Stroke(_) => ok,
         Form::Kerb(y) => same_style(s, ok, y),
     }
 }
@@ -51,7 +51,7 @@ fn same_header(s: &[u8], form: Form, grade: u32, n: u32, m: u32) -> usize
     requires { ⌜ FormWithin form ⌝ }
     ensures { λ r. ⌜ Runs (agree (now (s .entry))) fourBytes 0 0 (headerOf form grade n m) r (headerBytes form) ⌝ }
 {
-    let a = same_word(s, 0, 0, FIRST_EDITION);
+    let a = same_word(s, 0, 0, edition_word(form));
     let b = same_word(s, a, 4, kind_word(form));
     let c = same_word(s, b, 8, grade);
     let d = same_word(s, c, 12, n);
@@ -69,8 +69,8 @@ pub fn first_difference(
     c: Compared,
 ) -> usize
     requires { ⌜ (n ≡ length (lentPath form (now path))) × (n ≤ 4096) × FormWithin form ⌝ }
-    requires { ⌜ Agrees (now s) form grade (lentPath form (now path)) c ⌝ }
-    ensures { λ r. ⌜ r ≡ firstDiffering (now (s .entry)) (outlineBytes form grade (lentPath form (now (path .entry)))) ⌝ }
+    requires { ⌜ Agrees (now s) form grade (postsOf form n (now s)) (lentPath form (now path)) c ⌝ }
+    ensures { λ r. ⌜ r ≡ firstDiffering (now (s .entry)) (outlineBytes form grade (postsOf form n (now (s .entry))) (lentPath form (now (path .entry)))) ⌝ }
 {
     let base = front(form, n);
     let m = (c.end - base) / EDGE;

@@ -1,5 +1,5 @@
 -- After the reply 0 every row failed, so the path with the new vertex is within the limits, and its outline is sound. Assumes nothing.
-use mathlib.Core.Path.{_≡_, refl, sym, ap, _∙_}
+use mathlib.Core.Path.{_≡_, refl, sym, ap, subst, _∙_}
 use mathlib.Core.Bool.{true}
 use mathlib.Core.List.{List, [], _∷_, _++_, append-assoc}
 use Prim.Native.Nat.{ℕ, zero, suc, _-_, _<_}
@@ -10,9 +10,10 @@ use borrow.Author.Tests.{ltb-false, not-false}
 use Rattle.contacts.specs.Limits.{allowedOf, firstOutside}
 use Rattle.contacts.specs.declared.Vertex.{Vertex}
 use Rattle.locality.proofs.Locality.{earlier-kept, reach-kept}
-use Rattle.outline.specs.Outlines.{outlineBytes}
-use Rattle.outline.specs.Stores.{formIn, gradeIn, countIn, lengthIn, pathIn, bodiesIn, soundOf}
-use Rattle.heading.specs.StoreRows.{editionRow, kindRow, shortRow, styleRowIn, lengthRow, soundRow, storeRows}
+use Rattle.outline.specs.Outlines.{edgesFor, outlineBytes}
+use Rattle.outline.specs.Theorems.{Suits, Formed}
+use Rattle.outline.specs.Stores.{editionIn, editionOf, formIn, gradeIn, countIn, lengthIn, pathIn, postsIn, bodiesIn, soundOf}
+use Rattle.heading.specs.StoreRows.{editionRow, kindRow, unfitRow, styleRowIn, lengthRow, soundRow, storeRows}
 use Rattle.replies.specs.StyleRows.{styleRow}
 use Rattle.checking.specs.OtherKind.{otherKindRow}
 use Rattle.checking.proofs.OtherKinds.{not-other}
@@ -22,7 +23,8 @@ use Rattle.paths.specs.Paths.{edgesOf, Within}
 use Rattle.keeping.specs.Keeping.{writeRows}
 use Rattle.replies.proofs.Rows.{NoneHold, first-none, either, empty-not}
 use Rattle.contacts.proofs.Allowed.{inside-first, outside-most}
-use Rattle.outline.proofs.ReadBack.{path-count-in, form-back, kept-is-sound}
+use Rattle.outline.proofs.ReadBack.{path-count-in, sound-suits, suits-other, kept-is-sound}
+use Rattle.outline.specs.declared.Form.{Form}
 use Rattle.outline.specs.declared.Form.the-variants.{Stroke}
 
 -- ---- the path
@@ -36,8 +38,8 @@ outside-set (u ∷ vs) (suc k) v a h = rw (inside-first u vs h .0, firstOutside)
 -- ---- the call
 
 pub replace-none : (s : List ℕ) (k : ℕ) (v : Vertex) → replaceReply s k v .0 ≡ 0
-    → NoneHold (storeRows s ++ (otherKindRow s ∷ indexRow (length (pathIn s)) k ∷ newRow v k ∷ writeRows Stroke (gradeIn s) (set (pathIn s) k v) (length s)))
-unfolding replaceReply storeRows editionRow kindRow shortRow gradeRow styleRowIn styleRow countRow lengthRow outsideRow soundRow otherKindRow indexRow newRow writeRows emptyRow roomRow
+    → NoneHold (storeRows s ++ (otherKindRow s ∷ indexRow (length (pathIn s)) k ∷ newRow v k ∷ writeRows (formIn s) (gradeIn s) (postsIn s) (set (pathIn s) k v) (length s)))
+unfolding replaceReply storeRows editionRow kindRow unfitRow gradeRow styleRowIn styleRow countRow lengthRow outsideRow soundRow otherKindRow indexRow newRow writeRows emptyRow roomRow
 replace-none s k v h = first-none _ _ (refl, (refl, (refl, (refl, (refl, (refl, (refl, (refl, (refl, (refl, (refl, (refl, (refl, (refl, tt)))))))))))))) h
 
 -- the store's own path is within the limits, and so is it with a vertex that is allowed
@@ -70,28 +72,39 @@ pub sound-store : (s : List ℕ) (k : ℕ) (v : Vertex) → replaceReply s k v .
 unfolding storeRows soundRow
 sound-store s k v h = not-false _ (replace-none s k v h .1 .1 .1 .1 .1 .1 .1 .1 .0)
 
+-- the store is of a stroke
+pub stroke-store : (s : List ℕ) (k : ℕ) (v : Vertex) → replaceReply s k v .0 ≡ 0 → formIn s ≡ Stroke (editionOf (editionIn s))
+unfolding storeRows
+stroke-store s k v h = not-other s (replace-none s k v h .1 .1 .1 .1 .1 .1 .1 .1 .1 .0)
+
+-- its posts suit its path, and the path with the new vertex
+pub formed-store : (s : List ℕ) (k : ℕ) (v : Vertex) → replaceReply s k v .0 ≡ 0 → Formed (Stroke (editionOf (editionIn s))) (gradeIn s) (postsIn s) (pathIn s)
+formed-store s k v h = (within-store s k v h, sound-suits s (editionOf (editionIn s)) (stroke-store s k v h) (sound-store s k v h))
+
+pub formed-set : (s : List ℕ) (k : ℕ) (v : Vertex) → replaceReply s k v .0 ≡ 0 → Formed (formIn s) (gradeIn s) (postsIn s) (set (pathIn s) k v)
+formed-set s k v h =
+    let e = editionOf (editionIn s) in
+    let q : Suits (Stroke e) (postsIn s) (set (pathIn s) k v) = suits-other e (postsIn s) (pathIn s) (set (pathIn s) k v) (length-set (pathIn s) k v) (formed-store s k v h .1) in
+    (within-set s k v h, subst (λ (f : Form). Suits f (postsIn s) (set (pathIn s) k v)) (sym (stroke-store s k v h)) q)
+
 -- the path with the new vertex has an edge where it has a vertex
 pub some-set : (s : List ℕ) (k : ℕ) (v : Vertex) → replaceReply s k v .0 ≡ 0 → 0 < length (set (pathIn s) k v) → 0 < length (edgesOf (gradeIn s) (set (pathIn s) k v))
 unfolding storeRows writeRows
-some-set s k v h = empty-not _ _ (replace-none s k v h .1 .1 .1 .1 .1 .1 .1 .1 .1 .1 .1 .1 .0)
+some-set s k v h = subst (λ (f : Form). 0 < length (set (pathIn s) k v) → 0 < length (edgesFor f (gradeIn s) (set (pathIn s) k v))) (stroke-store s k v h) (empty-not _ _ (replace-none s k v h .1 .1 .1 .1 .1 .1 .1 .1 .1 .1 .1 .1 .0))
 
 pub out-is : (s : List ℕ) (k : ℕ) (v : Vertex) → replaceReply s k v .0 ≡ 0
-    → replaceOut s k v ≡ outlineBytes Stroke (gradeIn s) (set (pathIn s) k v) ++ (replicate (lengthIn s - length (replacedOf s k v)) 0 ++ drop (length (replacedOf s k v ++ replicate (lengthIn s - length (replacedOf s k v)) 0)) s)
+    → replaceOut s k v ≡ outlineBytes (formIn s) (gradeIn s) (postsIn s) (set (pathIn s) k v) ++ (replicate (lengthIn s - length (replacedOf s k v)) 0 ++ drop (length (replacedOf s k v ++ replicate (lengthIn s - length (replacedOf s k v)) 0)) s)
 unfolding replaceOut written replacedOf
 out-is s k v h = rw (h, written) (append-assoc (replacedOf s k v) (replicate (lengthIn s - length (replacedOf s k v)) 0) _)
 
 pub replaced-is-sound : ReplacedIsSound
 replaced-is-sound s k v h =
-    let b = kept-is-sound Stroke (gradeIn s) (set (pathIn s) k v) (replicate (lengthIn s - length (replacedOf s k v)) 0 ++ drop (length (replacedOf s k v ++ replicate (lengthIn s - length (replacedOf s k v)) 0)) s) (within-set s k v h, tt) in
-    (rw (out-is s k v h) (b .1), rw (out-is s k v h) (b .2), rw (out-is s k v h) (b .4))
+    let b = kept-is-sound (formIn s) (gradeIn s) (postsIn s) (set (pathIn s) k v) (replicate (lengthIn s - length (replacedOf s k v)) 0 ++ drop (length (replacedOf s k v ++ replicate (lengthIn s - length (replacedOf s k v)) 0)) s) (formed-set s k v h) in
+    (rw (out-is s k v h) (b .1), rw (out-is s k v h) (b .3), rw (out-is s k v h) (b .5), rw (out-is s k v h) (b .0), rw (out-is s k v h) (b .2))
 
--- it was of a stroke, and is
-pub stroke-store : (s : List ℕ) (k : ℕ) (v : Vertex) → replaceReply s k v .0 ≡ 0 → formIn s ≡ Stroke
-unfolding storeRows
-stroke-store s k v h = not-other s (replace-none s k v h .1 .1 .1 .1 .1 .1 .1 .1 .1 .0)
-
-pub stroke-replaced : (s : List ℕ) (k : ℕ) (v : Vertex) → replaceReply s k v .0 ≡ 0 → formIn (replaceOut s k v) ≡ Stroke
-stroke-replaced s k v h = rw (out-is s k v h) (form-back Stroke (gradeIn s) (set (pathIn s) k v) _ (within-set s k v h, tt))
+-- it is of a stroke again
+pub stroke-replaced : (s : List ℕ) (k : ℕ) (v : Vertex) → replaceReply s k v .0 ≡ 0 → formIn (replaceOut s k v) ≡ Stroke (editionOf (editionIn s))
+stroke-replaced s k v h = replaced-is-sound s k v h .3 ∙ stroke-store s k v h
 
 pub store-kept : StoreKept
 unfolding bodiesIn

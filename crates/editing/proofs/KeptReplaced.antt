@@ -9,7 +9,7 @@ use Rattle.contacts.specs.Limits.{allowedOf}
 use Rattle.contacts.specs.declared.Vertex.{Vertex}
 use Rattle.paths.specs.Paths.{edgesOf}
 use Rattle.outline.specs.Outlines.{outlineBytes}
-use Rattle.outline.proofs.ReadBack.{grade-back, vertices-back}
+use Rattle.outline.proofs.ReadBack.{form-back, grade-back, posts-again, vertices-back}
 use Rattle.outline.specs.declared.Form.the-variants.{Stroke}
 use Rattle.replies.specs.Replies.{Reply, Row, firstRow, indexRow, newRow}
 use Rattle.replies.proofs.Rows.{first-skip, empty-fails, room-enough}
@@ -26,10 +26,10 @@ change-none n k v rows last h a = rw (lt-leb n k h, firstRow, a, firstRow)
 
 pub kept-is-replaced : KeptIsReplaced
 unfolding replaceReply replacedOf writeRows
-kept-is-replaced g vs rest k v w h a e l =
-    let s = outlineBytes Stroke g vs ++ rest in
+kept-is-replaced d g ps vs rest k v w h a e l =
+    let s = outlineBytes (Stroke d) g ps vs ++ rest in
     let us = set vs k v in
-    let m = length (outlineBytes Stroke g us) in
-    first-skip (storeRows s) _ _ (store-none Stroke g vs rest (w, tt))
-    ∙ first-skip (otherKindRow s ∷ []) _ _ (kept-stroke g vs rest w, tt)
-    ∙ rw (grade-back Stroke g vs rest (w, tt), vertices-back Stroke g vs rest (w, tt)) (change-none (length vs) k v _ _ h a ∙ empty-fails (length us) (length (edgesOf g us)) _ (0, m) e ∙ room-enough m (length s) m (0, m) l)
+    let m = length (outlineBytes (Stroke d) g ps us) in
+    first-skip (storeRows s) _ _ (store-none (Stroke d) g ps vs rest w)
+    ∙ first-skip (otherKindRow s ∷ []) _ _ (kept-stroke d g ps vs rest w, tt)
+    ∙ rw (form-back (Stroke d) g ps vs rest w, grade-back (Stroke d) g ps vs rest w, posts-again (Stroke d) g ps vs rest w, vertices-back (Stroke d) g ps vs rest w) (change-none (length vs) k v _ _ h a ∙ empty-fails (length us) (length (edgesOf g us)) _ (0, m) e ∙ room-enough m (length s) m (0, m) l)

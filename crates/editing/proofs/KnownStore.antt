@@ -20,11 +20,12 @@ use Rattle.checking.proofs.StoreReads.{store-refuses, store-passes}
 use Rattle.checking.proofs.OtherKinds.{stroke-passes, kerb-refused}
 use Rattle.kerb.specs.declared.Style.{Style}
 use Rattle.paths.specs.Paths.{pathNumbers}
+use Rattle.outline.specs.declared.Edition.{Edition}
 use Rattle.outline.specs.declared.Form.the-variants.{Stroke, Kerb}
 use Rattle.replies.specs.declared.Refusal.the-variants.{OtherKind}
 
 module _ {s : List ℕ} {p : List ℤ} {h : Header} (a : Passed s p h) where
-  pub known : h .form ≡ Stroke → Known s p (h .grade) (h .n) (h .m)
+  pub known : {d : Edition} → h .form ≡ Stroke d → Known s p d (h .grade) (h .n) (h .m)
   unfolding pathNumbers
   known e = record {
     form = sym (a .sound .head .form) ∙ e;

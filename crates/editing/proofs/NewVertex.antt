@@ -20,8 +20,9 @@ use Rattle.contacts.specs.Bounds.{Inside}
 use Rattle.contacts.specs.Limits.{allowedOf}
 use Rattle.paths.specs.Paths.{pathOf, vertexNumbers, pathNumbers, Within}
 use Rattle.contacts.specs.declared.Vertex.{Vertex}
-use Rattle.outline.specs.Layout.{lengthOf}
-use Rattle.outline.specs.Stores.{gradeIn, lengthIn, pathIn}
+use Rattle.outline.specs.Layout.{frontBytes, lengthOf}
+use Rattle.outline.proofs.ShownPosts.{posts-front}
+use Rattle.outline.specs.Stores.{formIn, gradeIn, countIn, lengthIn, pathIn, postsOf, postsIn}
 use Rattle.replies.specs.Replies.{firstRow, indexRow, newRow}
 use Rattle.heading.specs.StoreRows.{storeRows}
 use Rattle.editing.specs.Replacing.{replacedOf, replaceReply, replaceOut, replyOfReplaced, Replaces}
@@ -40,6 +41,7 @@ use Rattle.replies.proofs.Rows.{rows-append, refused-written}
 use Rattle.replies.proofs.PathChecks.{within-fits}
 use Rattle.heading.proofs.Shown.{path-back}
 use Rattle.outline.proofs.Parts.{radius-size}
+use Rattle.outline.specs.declared.Edition.{Edition}
 use Rattle.outline.specs.declared.Form.the-variants.{Stroke}
 
 -- ---- a path and its numbers
@@ -93,20 +95,28 @@ numbers-fit g vs p {n} e en h =
 
 -- ---- the rows of a change
 
-module _ {s : List ℕ} {p : List ℤ} {g n m : ℕ} (h : Known s p g n m) where
+module _ {s : List ℕ} {p : List ℤ} {d : Edition} {g n m : ℕ} (h : Known s p d g n m) where
   known-count : length (pathIn s) ≡ n
   known-count = path-count-in s ∙ sym (h .vertices)
 
-  known-long : lengthOf Stroke n m ≡ lengthIn s
+  known-long : lengthOf (Stroke d) n m ≡ lengthIn s
   unfolding lengthIn
   known-long = rw (h .vertices, h .edges, h .form)
 
   -- what the code's sums and parts need
-  pub known-few : (n ≤ 4096) × (3 * n ≤ length p) × (lengthOf Stroke n m ≤ length s)
+  pub known-few : (n ≤ 4096) × (3 * n ≤ length p) × (lengthOf (Stroke d) n m ≤ length s)
   known-few = (omega (arith, known-count, h .within .count), omega (arith, ap length (h .path), numbers-count (pathIn s), known-count, length-take (3 * n) p), omega (arith, known-long, h .long))
 
+  -- the posts as the code has them
+  pub known-posts : {l : List ℕ} (l₀ : List ℕ) {k : ℕ} → l ≡ postsOf (Stroke d) n s ++ drop n l₀ → k ≡ n → take k l ≡ postsIn s
+  unfolding postsIn
+  known-posts l₀ q z = posts-front d s n l₀ q z ∙ (λ i. postsOf (sym (h .form) i) (h .vertices i) s)
+
+  pub known-front : frontBytes (Stroke d) n ≤ length s
+  known-front = omega (arith, known-long, h .long)
+
   module _ (k : ℕ) (v : Vertex) where
-    after : replaceReply s k v ≡ firstRow (indexRow n k ∷ newRow v k ∷ writeRows Stroke (gradeIn s) (set (pathIn s) k v) (length s)) (0, length (replacedOf s k v))
+    after : replaceReply s k v ≡ firstRow (indexRow n k ∷ newRow v k ∷ writeRows (formIn s) (gradeIn s) (postsIn s) (set (pathIn s) k v) (length s)) (0, length (replacedOf s k v))
     unfolding replaceReply
     after = rows-append (storeRows s) _ _ ∙ h .passed _ ∙ h .other _ _ ∙ rw known-count
 
@@ -134,10 +144,10 @@ module _ {s : List ℕ} {p : List ℤ} {g n m : ℕ} (h : Known s p g n m) where
           let r : (4, k) ≡ replaceReply s k v = sym (after ∙ rw (lt-leb n k l, firstRow, a, firstRow)) in
           record { reply = r; store = refused-written (Outside k) _ s r }
 
-      pub change-done : (us : List Vertex) {old : ℕ} {a : Kept} {r : Replaced} {s′ : List ℕ} → allowedOf v ≡ true → us ≡ set (pathIn s) k v → old ≡ lengthOf Stroke n m
-          → Rewrites s Stroke g us old a s′ → replyOfReplaced r ≡ replyOfKept a → Replaces s k v r s′
+      pub change-done : (qs : List ℕ) (us : List Vertex) {old : ℕ} {a : Kept} {r : Replaced} {s′ : List ℕ} → allowedOf v ≡ true → qs ≡ postsIn s → us ≡ set (pathIn s) k v → old ≡ lengthOf (Stroke d) n m
+          → Rewrites s (Stroke d) g qs us old a s′ → replyOfReplaced r ≡ replyOfKept a → Replaces s k v r s′
       unfolding replacedOf replaceOut firstRow indexRow newRow
-      change-done us {a = a} {s′ = s′} al eu eo w e =
-          let w′ : Rewrites s Stroke (gradeIn s) (set (pathIn s) k v) (lengthIn s) a s′ = rw (h .grade, eu, eo ∙ known-long) at w in
+      change-done qs us {a = a} {s′ = s′} al eq eu eo w e =
+          let w′ : Rewrites s (formIn s) (gradeIn s) (postsIn s) (set (pathIn s) k v) (lengthIn s) a s′ = rw (h .form) (rw (h .grade, eq, eu, eo ∙ known-long) at w) in
           let f : replyOfKept a ≡ replaceReply s k v = w′ .reply ∙ sym (after ∙ rw (lt-leb n k l, firstRow, al, firstRow)) in
           record { reply = e ∙ f; store = rw f at (w′ .bytes) }

@@ -7,6 +7,7 @@ use lib.ListN.{length, take}
 use Rattle.paths.specs.Paths.{pathNumbers, Within}
 use Rattle.words.specs.Words.{wordAt}
 use Rattle.outline.specs.Stores.{formIn, gradeIn, countIn, lengthIn, pathIn}
+use Rattle.outline.specs.declared.Edition.{Edition}
 use Rattle.outline.specs.declared.Form.the-variants.{Stroke}
 use Rattle.replies.specs.Replies.{Reply, Row, firstRow}
 use Rattle.runs.specs.Runs.{spread}
@@ -17,8 +18,8 @@ use Rattle.checking.specs.StoreChecks.{Sound}
 use Rattle.heading.specs.StoreRows.{storeRows}
 
 -- a store that passed its rows: its header's words, and its vertices at the front of the numbers of a path
-pub record Known (s : List ℕ) (p : List ℤ) (g n m : ℕ) : Type 0 where
-  pub form : formIn s ≡ Stroke
+pub record Known (s : List ℕ) (p : List ℤ) (e : Edition) (g n m : ℕ) : Type 0 where
+  pub form : formIn s ≡ Stroke e
   pub grade : g ≡ gradeIn s
   pub vertices : n ≡ countIn s
   pub edges : m ≡ wordAt s 4

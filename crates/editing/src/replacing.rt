@@ -7,9 +7,11 @@ use heading::Checked;
 use heading::Header;
 use keeping::Kept;
 use keeping::rewriting::rewrite;
+use outline::Edition;
 use outline::Form;
 use outline::layout::KERB_KIND;
 use outline::layout::whole_length;
+use outline::posts::show_posts;
 use replies::Refusal;
 ghost use mathlib.Core.Path.{_≡_};
 ghost use mathlib.Core.List.{[], _∷_};
@@ -55,18 +57,20 @@ fn replaced(k: Kept) -> Replaced
     }
 }
 
-// A store that passed its rows, its vertices at the front of `path`.
+// A store that passed its rows, its vertices at the front of `path`: its edition stays, and every post.
 pub fn change(
     store: &mut [u8],
+    edition: Edition,
     grade: u32,
     n: usize,
     m: usize,
     index: usize,
     v: Vertex,
     path: &mut [i32],
+    posts: &mut [u32],
     own: &mut [i32],
 ) -> Replaced
-    requires { ⌜ Known (now store) (now path) grade n m × (36908 ≤ length (now own)) ⌝ }
+    requires { ⌜ Known (now store) (now path) edition grade n m × (4096 ≤ length (now posts)) × (36908 ≤ length (now own)) ⌝ }
     ensures { λ r. ⌜ Replaces (now (store .entry)) index v r (now (store .exit)) ⌝ }
 {
     if n <= index {
@@ -76,9 +80,19 @@ pub fn change(
         return Replaced::Refused(Refusal::Outside(index));
     }
     put_vertex(path, index, v);
+    show_posts(store, edition, n, posts);
     let numbers = 3 * n;
-    let old = whole_length(Form::Stroke, n, m);
-    replaced(rewrite(&path[0..numbers], n, grade, old, own, store))
+    let old = whole_length(Form::Stroke(edition), n, m);
+    replaced(rewrite(
+        &path[0..numbers],
+        &posts[0..n],
+        n,
+        edition,
+        grade,
+        old,
+        own,
+        store,
+    ))
 }
 
 // A store that passed its rows, if it is of a stroke.
@@ -88,32 +102,34 @@ fn change_stroke(
     index: usize,
     v: Vertex,
     path: &mut [i32],
+    posts: &mut [u32],
     own: &mut [i32],
 ) -> Replaced
-    requires { ⌜ Passed (now store) (now path) h × (36908 ≤ length (now own)) ⌝ }
+    requires { ⌜ Passed (now store) (now path) h × (4096 ≤ length (now posts)) × (36908 ≤ length (now own)) ⌝ }
     ensures { λ r. ⌜ Replaces (now (store .entry)) index v r (now (store .exit)) ⌝ }
 {
     let form = h.form;
     match form {
         Form::Kerb(_) => Replaced::Refused(Refusal::OtherKind(KERB_KIND)),
-        Form::Stroke => change(store, h.grade, h.n, h.m, index, v, path, own),
+        Form::Stroke(e) => change(store, e, h.grade, h.n, h.m, index, v, path, posts, own),
     }
 }
 
-// replace with numbers of the caller's: for the store's path, and for a step's edges.
+// replace with numbers of the caller's: for the store's path, for its posts, and for a step's edges.
 pub fn replace_with(
     store: &mut [u8],
     index: usize,
     v: Vertex,
     path: &mut [i32],
+    posts: &mut [u32],
     own: &mut [i32],
 ) -> Replaced
-    requires { ⌜ (12288 ≤ length (now path)) × (36908 ≤ length (now own)) ⌝ }
+    requires { ⌜ (12288 ≤ length (now path)) × (4096 ≤ length (now posts)) × (36908 ≤ length (now own)) ⌝ }
     ensures { λ r. ⌜ Replaces (now (store .entry)) index v r (now (store .exit)) ⌝ }
 {
     let checked = check(store, path, own);
     match checked {
         Checked::Refused(r) => Replaced::Refused(r),
-        Checked::Holds(h) => change_stroke(store, h, index, v, path, own),
+        Checked::Holds(h) => change_stroke(store, h, index, v, path, posts, own),
     }
 }

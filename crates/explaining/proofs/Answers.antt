@@ -25,6 +25,7 @@ use Rattle.heading.proofs.Shown.{path-back}
 use Rattle.checking.proofs.StoreReads.{store-refuses, store-passes, header-count}
 use Rattle.checking.proofs.OtherKinds.{stroke-passes, kerb-refused}
 use Rattle.kerb.specs.declared.Style.{Style}
+use Rattle.outline.specs.declared.Edition.{Edition}
 use Rattle.outline.specs.declared.Form.the-variants.{Stroke, Kerb}
 use Rattle.editing.specs.Known.{Passed}
 use Rattle.editing.proofs.KnownStore.{known}
@@ -160,7 +161,7 @@ module _ {s : List ℕ} {p : List ℤ} {h : Header} (a : Passed s p h) where
   lists-other out e = lists-refusal out (OtherKind 1) (kerb-refused (a .sound .head) _ _ e ∙ sym (store-passes _ _ (a .sound)))
 
   -- of a stroke
-  module _ (e : h .form ≡ Stroke) where
+  module _ {d : Edition} (e : h .form ≡ Stroke d) where
     shown : pathOf (take (3 * h .n) p) ≡ pathIn s
     shown = ap pathOf (known a e .path) ∙ path-back (pathIn s)
 

@@ -56,7 +56,7 @@ fn explain_stroke(
     let form = h.form;
     match form {
         Form::Kerb(_) => Explained::Refused(Refusal::OtherKind(KERB_KIND)),
-        Form::Stroke => explain_in(path, h.n, h.grade, edge, one),
+        Form::Stroke(_) => explain_in(path, h.n, h.grade, edge, one),
     }
 }
 
@@ -101,7 +101,7 @@ fn list_stroke(store: &[u8], path: &[i32], h: Header, out: &mut [usize]) -> List
     let form = h.form;
     match form {
         Form::Kerb(_) => Listed::Refused(Refusal::OtherKind(KERB_KIND)),
-        Form::Stroke => list_in(path, h.n, h.grade, out),
+        Form::Stroke(_) => list_in(path, h.n, h.grade, out),
     }
 }
 

@@ -1,6 +1,6 @@
 -- The rows of a store's header: one that holds is the reply, and one that fails leaves the rest; by each outcome of the tests. Assumes nothing.
 use mathlib.Core.Path.{_≡_, refl, sym, ap, _∙_}
-use mathlib.Core.Bool.{Bool, true, false, _&&_}
+use mathlib.Core.Bool.{Bool, true, false, _&&_, true≢false}
 use mathlib.Core.List.{List, [], _∷_}
 use Prim.Native.Nat.{ℕ, zero, suc, _^_, _≤_, _<_}
 use native.Mathlib.Omega.{arith}
@@ -13,20 +13,21 @@ use Rattle.kerb.specs.Styles.{styleOf}
 use Rattle.kerb.specs.declared.Style.{Style}
 use Rattle.kerb.proofs.StyleNumbers.{style-radius}
 use Rattle.words.specs.Words.{wordAt}
-use Rattle.outline.specs.Layout.{firstEdition, kerbKind, lengthOf}
-use Rattle.outline.specs.Stores.{editionIn, kindIn, formIn, gradeIn, countIn, lengthIn}
+use Rattle.outline.specs.Layout.{firstEdition, editionNumber, kerbKind, lengthOf}
+use Rattle.outline.specs.Stores.{editionIn, kindIn, editionOf, formIn, gradeIn, countIn, lengthIn}
 use Rattle.outline.specs.Theorems.{Bytes}
+use Rattle.outline.specs.declared.Edition.{Edition}
 use Rattle.outline.specs.declared.Form.{Form}
 use Rattle.outline.specs.declared.Form.the-variants.{Stroke, Kerb}
 use Rattle.outline.proofs.FormLengths.{length-small}
-use Rattle.outline.proofs.ReadBack.{form-stroke}
+use Rattle.outline.proofs.ReadBack.{edition-again, form-stroke}
 use Rattle.replies.specs.Replies.{Row, firstRow, gradeRow, countRow}
 use Rattle.replies.specs.StyleRows.{styleFault, styleRow}
 use Rattle.replies.specs.Refusals.{refusalOf}
 use Rattle.replies.specs.declared.Refusal.{Refusal}
 use Rattle.replies.specs.declared.Refusal.the-variants.{TooMany, Grade, NotOutline, Kind, StyleWord}
 use Rattle.replies.proofs.StyleFaults.{faultless}
-use Rattle.heading.specs.StoreRows.{editionRow, kindRow, leastOf, shortRow, styleRowIn, lengthRow}
+use Rattle.heading.specs.StoreRows.{editionRow, kindRow, leastOf, misplacedOf, unfitRow, styleRowIn, lengthRow}
 use Rattle.heading.specs.Heads.{sizeRows, headRows, orStore, Head, RowsSay, KindFits, FormFits}
 use Rattle.heading.specs.declared.Header.{Header}
 use Rattle.heading.specs.declared.Checked.{Checked}
@@ -60,14 +61,18 @@ module _ (s : List ℕ) where
   head-short l = row-holds s (editionRow s) NotOutline (rw (lt-ltb (length s) 24 l)) refl
 
   module _ (long : 24 ≤ length s) where
-    pub head-edition : {e : ℕ} → e ≡ wordAt s 0 → (e ≡ 1 → ⊥) → RowsSay s (headRows s) (Refused NotOutline)
+    pub head-older : {e : ℕ} → e ≡ wordAt s 0 → e < 1 → RowsSay s (headRows s) (Refused NotOutline)
     unfolding headRows editionRow editionIn refusalOf
-    head-edition ee n = row-holds s (editionRow s) NotOutline (rw (le-ltb (length s) 24 long, ne-eqb (wordAt s 0) firstEdition (rw ee at n))) refl
+    head-older ee n = row-holds s (editionRow s) NotOutline (rw (le-ltb (length s) 24 long, lt-ltb (wordAt s 0) 1 (rw ee at n))) refl
 
-    module _ {e : ℕ} (ee : e ≡ wordAt s 0) (edition : e ≡ 1) where
+    pub head-newer : {e : ℕ} → e ≡ wordAt s 0 → 1 ≤ e → 2 < e → RowsSay s (headRows s) (Refused NotOutline)
+    unfolding headRows editionRow editionIn refusalOf
+    head-newer ee l n = row-holds s (editionRow s) NotOutline (rw (le-ltb (length s) 24 long, le-ltb (wordAt s 0) 1 (rw ee at l), lt-ltb 2 (wordAt s 0) (rw ee at n))) refl
+
+    module _ {e : ℕ} (ee : e ≡ wordAt s 0) (oldest : 1 ≤ e) (newest : e ≤ 2) where
       edition-fails : editionRow s .0 ≡ false
       unfolding editionRow editionIn
-      edition-fails = rw (le-ltb (length s) 24 long, eq-eqb (wordAt s 0) firstEdition (sym ee ∙ edition))
+      edition-fails = rw (le-ltb (length s) 24 long, le-ltb (wordAt s 0) 1 (rw ee at oldest), le-ltb 2 (wordAt s 0) (rw ee at newest))
 
       module _ {k : ℕ} (ek : k ≡ wordAt s 1) where
         pub head-kind : 1 < k → RowsSay s (headRows s) (Refused (Kind k))
@@ -80,17 +85,37 @@ module _ (s : List ℕ) where
           kind-fails = le-ltb 1 (wordAt s 1) (rw ek at known)
 
           pub head-least : length s < m → RowsSay s (headRows s) (Refused NotOutline)
-          unfolding headRows shortRow kindIn refusalOf
-          head-least l = row-fails s (editionRow s) edition-fails (row-fails s (kindRow s) kind-fails (row-holds s (shortRow s) NotOutline (lt-ltb (length s) (leastOf (wordAt s 1)) (rw (em, ek) at l)) refl))
+          unfolding headRows unfitRow kindIn refusalOf
+          head-least l = row-fails s (editionRow s) edition-fails (row-fails s (kindRow s) kind-fails (row-holds s (unfitRow s) NotOutline (rw (lt-ltb (length s) (leastOf (wordAt s 1)) (rw (em, ek) at l))) refl))
 
-          module _ (enough : m ≤ length s) where
-            pub kind-fits : KindFits s k
-            unfolding editionIn kindIn
-            kind-fits = record { edition = sym ee ∙ edition; kind = sym ek; known = known; long = rw em at enough }
+          module _ (enough : m ≤ length s) {o : Bool} (eo : o ≡ misplacedOf k e) where
+            misplaced-is : misplacedOf (wordAt s 1) (wordAt s 0) ≡ o
+            misplaced-is = sym (rw (ek, ee) at eo)
 
-            pub head-past : {r : Checked} → RowsSay s (gradeRow (gradeIn s) ∷ styleRowIn s ∷ sizeRows s) r → RowsSay s (headRows s) r
-            unfolding headRows shortRow kindIn
-            head-past p = row-fails s (editionRow s) edition-fails (row-fails s (kindRow s) kind-fails (row-fails s (shortRow s) (le-ltb (length s) (leastOf (wordAt s 1)) (rw (em, ek) at enough)) p))
+            pub head-misplaced : o ≡ true → RowsSay s (headRows s) (Refused NotOutline)
+            unfolding headRows unfitRow kindIn editionIn refusalOf
+            head-misplaced q =
+                row-fails s (editionRow s) edition-fails (row-fails s (kindRow s) kind-fails (row-holds s (unfitRow s) NotOutline (rw (le-ltb (length s) (leastOf (wordAt s 1)) (rw (em, ek) at enough)) (misplaced-is ∙ q)) refl))
+
+            module _ (q : o ≡ false) where
+              only-first : k ≡ kerbKind → editionIn s ≡ firstEdition
+              unfolding misplacedOf editionIn
+              only-first f = sym ee ∙ one e oldest newest (rw f at (sym eo ∙ q))
+                where
+                  one : (j : ℕ) → 1 ≤ j → j ≤ 2 → eqb j 2 ≡ false → j ≡ 1
+                  one zero a b n = absurd (omega arith)
+                  one (suc zero) a b n = refl
+                  one (suc (suc zero)) a b n = absurd (true≢false n)
+                  one (suc (suc (suc j))) a b n = absurd (omega arith)
+
+              pub kind-fits : KindFits s k
+              unfolding editionIn kindIn
+              kind-fits = record { oldest = rw ee at oldest; newest = rw ee at newest; first = only-first; kind = sym ek; known = known; long = rw em at enough }
+
+              pub head-past : {r : Checked} → RowsSay s (gradeRow (gradeIn s) ∷ styleRowIn s ∷ sizeRows s) r → RowsSay s (headRows s) r
+              unfolding headRows unfitRow kindIn editionIn
+              head-past p =
+                  row-fails s (editionRow s) edition-fails (row-fails s (kindRow s) kind-fails (row-fails s (unfitRow s) (rw (le-ltb (length s) (leastOf (wordAt s 1)) (rw (em, ek) at enough)) (misplaced-is ∙ q)) p))
 
 -- ---- grade, and a kerb's style
 
@@ -133,8 +158,19 @@ module _ (s : List ℕ) {g : ℕ} (eg : g ≡ wordAt s 2) where
       grade-past p = row-fails s (gradeRow (gradeIn s)) (rw (le-ltb (wordAt s 2) 1 (rw eg at low), le-ltb 8 (wordAt s 2) (rw eg at high))) p
 
       module _ {k : ℕ} (h : KindFits s k) where
-        pub stroke-fits : k ≡ 0 → FormFits s Stroke
-        stroke-fits e = record { edition = h .edition; kind = h .kind ∙ e; form = sym (form-stroke s (h .kind ∙ e)); within = tt; long = kind-long h; low = grade-fits .0; high = grade-fits .1 }
+        pub stroke-fits : {w : ℕ} {e : Edition} → w ≡ wordAt s 0 → e ≡ editionOf w → k ≡ 0 → FormFits s (Stroke e)
+        unfolding editionIn
+        stroke-fits {w} {e} ew ee z =
+            let q : e ≡ editionOf (editionIn s) = ee ∙ ap editionOf ew in
+            record {
+              edition = edition-again (editionIn s) (h .oldest) (h .newest) ∙ ap editionNumber (sym q);
+              kind = h .kind ∙ z;
+              form = sym (form-stroke s (h .kind ∙ z) ∙ ap Stroke (sym q));
+              within = tt;
+              long = kind-long h;
+              low = grade-fits .0;
+              high = grade-fits .1;
+            }
 
         pub kerb-fits : (k ≡ 0 → ⊥) → KindFits s 1 × (1 ≤ gradeIn s) × (gradeIn s ≤ 8)
         kerb-fits n = let e : k ≡ 1 = one k (h .known) n in (rw e at h, grade-fits .0, grade-fits .1)
@@ -165,7 +201,7 @@ module _ (s : List ℕ) (h : KindFits s 1) {r j c : ℕ} (er : r ≡ wordAt s 5)
     style-fits {y} ey low high =
         let z : styleFault r j c ≡ 0 = omega (arith, ei, l) in
         record {
-          edition = h .edition;
+          edition = h .first refl;
           kind = h .kind;
           form = sym (rw (h .kind, formIn) (ap Kerb (sym (rw (er, ej, ec) at ey))));
           within = style-radius r j c (faultless r j c z .0) ey;
@@ -204,7 +240,7 @@ module _ (s : List ℕ) {f : Form} (F : FormFits s f) {n : ℕ} (en : n ≡ word
       where
         known : Head s (record { form = f; grade = g; n = n; m = m })
         known = record {
-          headed = record { bytes = bytes-of s bytes; edition = F .edition; kind = rw (F .form) at (F .kind); count = rw en at few; long = rw length-is at l };
+          headed = record { bytes = bytes-of s bytes; edition = rw (F .form) at (F .edition); kind = rw (F .form) at (F .kind); count = rw en at few; long = rw length-is at l };
           form = F .form;
           within = F .within;
           grade = eg;

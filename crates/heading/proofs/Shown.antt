@@ -26,7 +26,9 @@ use Rattle.contacts.specs.declared.Vertex.{Vertex}
 use Rattle.contacts.proofs.Allowed.{inside-of, inside-first}
 use Rattle.kerb.specs.declared.Style.{Style}
 use Rattle.kerb_paths.specs.Points.{kerbPath}
-use Rattle.outline.specs.Layout.{headerWords, entryWords, entryAt, frontBytes}
+use Rattle.outline.specs.Layout.{strokeWords, strokeBytes, headerWords, entryWords, entryAt, frontBytes}
+use Rattle.outline.proofs.FormLengths.{entry-more}
+use Rattle.outline.specs.declared.Edition.{Edition}
 use Rattle.outline.specs.declared.Form.{Form}
 use Rattle.outline.specs.declared.Form.the-variants.{Stroke, Kerb}
 use Rattle.words.specs.Words.{numberOf, wordsIn, wordAt}
@@ -38,13 +40,15 @@ use Rattle.heading.specs.Shows.{pointNumbers, lentNumbers, lentWidth, sh
 number-told : {z : ℤ} {w w′ : ℕ} → mag z < 2 ^ 31 → z ≡ numberOf w → w ≡ w′ → toZ w32 (ofZ w32 z) ≡ numberOf w′
 number-told h e f = toZ-ofZ (record { sfits = h }) ∙ e ∙ ap numberOf f
 
-pub vertex-shown : {l : List ℤ} {at : ℕ} (s : List ℕ) (k : ℕ) {x y r : ℤ} {u v w : ℕ} → mag x < 2 ^ 31 → mag y < 2 ^ 31 → mag r < 2 ^ 31 → x ≡ numberOf u → y ≡ numberOf v → r ≡ numberOf w
-    → u ≡ wordAt s (entryAt Stroke k) → v ≡ wordAt s (entryAt Stroke k + 1) → w ≡ wordAt s (entryAt Stroke k + 2)
-    → Runs put vertexNumbers l at (shownAt Stroke s k ∷ []) (set (set (set l at (toZ w32 (ofZ w32 x))) (at + 1) (toZ w32 (ofZ w32 y))) (at + 2) (toZ w32 (ofZ w32 r))) (at + 3)
+pub vertex-shown : {l : List ℤ} {at : ℕ} (e : Edition) (s : List ℕ) (k : ℕ) {x y r : ℤ} {u v w wide : ℕ} → wide ≡ strokeWords e → mag x < 2 ^ 31 → mag y < 2 ^ 31 → mag r < 2 ^ 31 → x ≡ numberOf u → y ≡ numberOf v → r ≡ numberOf w
+    → u ≡ wordAt s (5 + wide * k) → v ≡ wordAt s (5 + wide * k + 1) → w ≡ wordAt s (5 + wide * k + 2)
+    → Runs put vertexNumbers l at (shownAt (Stroke e) s k ∷ []) (set (set (set l at (toZ w32 (ofZ w32 x))) (at + 1) (toZ w32 (ofZ w32 y))) (at + 2) (toZ w32 (ofZ w32 r))) (at + 3)
 unfolding spread over vertexNumbers shownAt shownRadius wordAt
-vertex-shown {at = at} s k hx hy hr ex ey er eu ev ew =
-    let e = ew ∙ sym (getD-drop (entryAt Stroke k) (wordsIn s) 2 0) in
-    record { out = cc (add-one at, add-two at, number-told hx ex eu, number-told hy ey ev, number-told hr er e); pos = refl }
+vertex-shown {at = at} e s k {wide = wide} q hx hy hr ex ey er eu ev ew =
+    let fu : _ ≡ wordAt s (entryAt (Stroke e) k) = eu ∙ ap (λ (n : ℕ). wordAt s (5 + n * k)) q in
+    let fv : _ ≡ wordAt s (entryAt (Stroke e) k + 1) = ev ∙ ap (λ (n : ℕ). wordAt s (5 + n * k + 1)) q in
+    let fw = ew ∙ ap (λ (n : ℕ). wordAt s (5 + n * k + 2)) q ∙ sym (getD-drop (entryAt (Stroke e) k) (wordsIn s) 2 0) in
+    record { out = cc (add-one at, add-two at, number-told hx ex fu, number-told hy ey fv, number-told hr er fw); pos = refl }
 
 pub point-shown : {l : List ℤ} {at : ℕ} (s : List ℕ) (k : ℕ) (o : Style) {x y : ℤ} {u v : ℕ} → mag x < 2 ^ 31 → mag y < 2 ^ 31 → x ≡ numberOf u → y ≡ numberOf v
     → u ≡ wordAt s (entryAt (Kerb o) k) → v ≡ wordAt s (entryAt (Kerb o) k + 1)
@@ -57,14 +61,19 @@ point-shown {at = at} s k o hx hy ex ey eu ev = record { out = cc (add-one at, n
 pub shown-next : (f : Form) (s : List ℕ) (n k : ℕ) → k < n
     → shownIn f (n - k) (drop (entryAt f k) (wordsIn s)) ≡ (shownAt f s k ∷ []) ++ shownIn f (n - (k + 1)) (drop (entryAt f (k + 1)) (wordsIn s))
 unfolding shownIn shownAt wordAt
-shown-next Stroke s n k h =
+shown-next (Stroke e) s n k h =
     let a : n - k ≡ suc (n - (k + 1)) = omega arith in
-    let next : entryAt Stroke k + entryWords Stroke ≡ entryAt Stroke (k + 1) = omega arith in
+    let next : entryAt (Stroke e) k + entryWords (Stroke e) ≡ entryAt (Stroke e) (k + 1) = omega (arith, entry-more e k) in
     rw a (simp (getD-drop, drop-drop, add-zero, next))
 shown-next (Kerb y) s n k h =
     let a : n - k ≡ suc (n - (k + 1)) = omega arith in
     let next : entryAt (Kerb y) k + entryWords (Kerb y) ≡ entryAt (Kerb y) (k + 1) = omega arith in
     rw a (simp (getD-drop, drop-drop, add-zero, next))
+
+pub shown-start : (e : Edition) (s : List ℕ) (n : ℕ) → shownIn (Stroke e) n (drop 5 (wordsIn s)) ≡ shownIn (Stroke e) (n - 0) (drop (entryAt (Stroke e) 0) (wordsIn s))
+shown-start e s n =
+    let z : entryAt (Stroke e) 0 ≡ 5 = omega arith in
+    λ i. shownIn (Stroke e) (sym (sub-zero n) i) (drop (sym z i) (wordsIn s))
 
 pub shown-end : (f : Form) (s : List ℕ) (n k : ℕ) → n ≤ k → shownIn f (n - k) (drop (entryAt f k) (wordsIn s)) ≡ []
 unfolding shownIn
@@ -87,7 +96,7 @@ module _ {s : List ℕ} {n : ℕ} {l₀ l : List ℤ} {k : ℕ} (p : PointsOn s 
 
 -- by the form
 module _ {form : Form} {l₀ l₁ : List ℤ} where
-  pub shows-stroke : (s : List ℕ) (n : ℕ) → form ≡ Stroke → Runs put vertexNumbers l₀ 0 (shownIn Stroke n (drop 5 (wordsIn s))) l₁ (3 * n)
+  pub shows-stroke : (s : List ℕ) (n : ℕ) {e : Edition} → form ≡ Stroke e → Runs put vertexNumbers l₀ 0 (shownIn (Stroke e) n (drop 5 (wordsIn s))) l₁ (3 * n)
       → Runs put (lentNumbers form) l₀ 0 (shownIn form n (drop (headerWords form) (wordsIn s))) l₁ (lentWidth form * n)
   shows-stroke s n e p = rw e p
 
@@ -95,7 +104,7 @@ module _ {form : Form} {l₀ l₁ : List ℤ} where
   shows-kerb s {y} e p = rw e (p .each y)
 
 module _ (form : Form) (n i j : ℕ) (h : (frontBytes form n ≤ i) × (lentWidth form * n ≤ j)) where
-  pub room-stroke : form ≡ Stroke → (24 + 16 * n ≤ i) × (3 * n ≤ j)
+  pub room-stroke : {e : Edition} → form ≡ Stroke e → (24 + strokeBytes e * n ≤ i) × (3 * n ≤ j)
   room-stroke e = rw e at h
 
   pub room-kerb : {y : Style} → form ≡ Kerb y → (44 + 8 * n ≤ i) × (2 * n ≤ j)
@@ -138,19 +147,19 @@ points-same y (suc n) ws = ap (λ (vs : List Vertex). record { x = numberOf (get
 
 pub shown-outside : (f : Form) (n : ℕ) (ws : List ℕ) → firstOutside (shownIn f n ws) ≡ firstOutside (entriesIn f n ws)
 unfolding shownIn shownRadius entriesIn radiusIn firstOutside
-shown-outside Stroke zero ws = refl
-shown-outside Stroke (suc n) ws =
-    λ i. elim (allowed-shown (numberOf (getD ws 0 0)) (numberOf (getD ws 1 0)) (getD ws 2 0) i) [ true ↦ suc (shown-outside Stroke n (drop 4 ws) i) | false ↦ 0 ]
+shown-outside (Stroke e) zero ws = refl
+shown-outside (Stroke e) (suc n) ws =
+    λ i. elim (allowed-shown (numberOf (getD ws 0 0)) (numberOf (getD ws 1 0)) (getD ws 2 0) i) [ true ↦ suc (shown-outside (Stroke e) n (drop (strokeWords e) ws) i) | false ↦ 0 ]
 shown-outside (Kerb y) n ws = ap firstOutside (points-same y n ws)
 
 shown-same : (f : Form) (n : ℕ) (ws : List ℕ) → firstOutside (entriesIn f n ws) ≡ length (entriesIn f n ws) → shownIn f n ws ≡ entriesIn f n ws
 unfolding shownIn shownRadius entriesIn radiusIn
-shown-same Stroke zero ws h = refl
-shown-same Stroke (suc n) ws h =
+shown-same (Stroke e) zero ws h = refl
+shown-same (Stroke e) (suc n) ws h =
     let x = numberOf (getD ws 0 0) in
     let y = numberOf (getD ws 1 0) in
-    let f = inside-first (record { x = x; y = y; radius = pos (getD ws 2 0) }) (entriesIn Stroke n (drop 4 ws)) h in
-    λ i. record { x = x; y = y; radius = number-shown x y (getD ws 2 0) (f .0) i } ∷ shown-same Stroke n (drop 4 ws) (f .1) i
+    let f = inside-first (record { x = x; y = y; radius = pos (getD ws 2 0) }) (entriesIn (Stroke e) n (drop (strokeWords e) ws)) h in
+    λ i. record { x = x; y = y; radius = number-shown x y (getD ws 2 0) (f .0) i } ∷ shown-same (Stroke e) n (drop (strokeWords e) ws) (f .1) i
 shown-same (Kerb y) n ws h = points-same y n ws
 
 pub shown-path : (s : List ℕ) → firstOutside (pathIn s) ≡ length (pathIn s) → shownPath s ≡ pathIn s

@@ -4,13 +4,13 @@ use mathlib.Core.List.{List, [], _∷_}
 use Prim.Native.Nat.{ℕ, _≤_}
 use lib.ListN.{length}
 use Rattle.words.specs.Words.{wordAt}
-use Rattle.outline.specs.Layout.{firstEdition, kindWord}
+use Rattle.outline.specs.Layout.{firstEdition, secondEdition, editionWord, kerbKind, kindWord}
 use Rattle.outline.specs.Stores.{editionIn, kindIn, formIn, gradeIn, countIn}
 use Rattle.outline.specs.Theorems.{FormWithin, Headed}
 use Rattle.outline.specs.declared.Form.{Form}
 use Rattle.replies.specs.Replies.{Reply, Row, firstRow, gradeRow, countRow}
 use Rattle.replies.specs.Refusals.{refusalOf}
-use Rattle.heading.specs.StoreRows.{editionRow, kindRow, leastOf, shortRow, styleRowIn, lengthRow}
+use Rattle.heading.specs.StoreRows.{editionRow, kindRow, leastOf, unfitRow, styleRowIn, lengthRow}
 use Rattle.heading.specs.declared.Header.{Header}
 use Rattle.heading.specs.declared.Checked.{Checked}
 use Rattle.heading.specs.declared.Checked.the-variants.{Holds, Refused}
@@ -20,7 +20,7 @@ unfoldable pub sizeRows : List ℕ → List Row
 sizeRows s = countRow (countIn s) ∷ lengthRow s ∷ []
 
 unfoldable pub headRows : List ℕ → List Row
-headRows s = editionRow s ∷ kindRow s ∷ shortRow s ∷ gradeRow (gradeIn s) ∷ styleRowIn s ∷ sizeRows s
+headRows s = editionRow s ∷ kindRow s ∷ unfitRow s ∷ gradeRow (gradeIn s) ∷ styleRowIn s ∷ sizeRows s
 
 -- a refusal's reply, or what further rows say
 unfoldable pub orStore : Checked → Reply → Reply
@@ -45,14 +45,16 @@ pub record RowsSay (s : List ℕ) (rows : List Row) (r : Checked) : Type 0 where
 
 -- a store of kind k that passed the rows before its grade
 pub record KindFits (s : List ℕ) (k : ℕ) : Type 0 where
-  pub edition : editionIn s ≡ firstEdition
+  pub oldest : firstEdition ≤ editionIn s
+  pub newest : editionIn s ≤ secondEdition
+  pub first : k ≡ kerbKind → editionIn s ≡ firstEdition
   pub kind : kindIn s ≡ k
   pub known : k ≤ 1
   pub long : leastOf k ≤ length s
 
 -- and one of a form that passed the rows before its vertices
 pub record FormFits (s : List ℕ) (f : Form) : Type 0 where
-  pub edition : editionIn s ≡ firstEdition
+  pub edition : editionIn s ≡ editionWord f
   pub kind : kindIn s ≡ kindWord f
   pub form : f ≡ formIn s
   pub within : FormWithin f

@@ -19,17 +19,17 @@ pointNumbers v = v .x ∷ v .y ∷ []
 
 -- a vertex as numbers that are lent, and how many those are
 abbrev pub lentNumbers : Form → Vertex → List ℤ
-lentNumbers Stroke = vertexNumbers
+lentNumbers (Stroke e) = vertexNumbers
 lentNumbers (Kerb y) = pointNumbers
 
 abbrev pub lentWidth : Form → ℕ
-lentWidth Stroke = 3
+lentWidth (Stroke e) = 3
 lentWidth (Kerb y) = 2
 
 -- The vertices of a table as numbers of 32 bits, the radius too in two's complement: a radius word of 2^31 or more then lies below 0, and is
 -- outside the limits as it is where it is unsigned. A word that is missing is 0.
 unfoldable pub shownRadius : Form → List ℕ → ℤ
-shownRadius Stroke ws = numberOf (getD ws 2 0)
+shownRadius (Stroke e) ws = numberOf (getD ws 2 0)
 shownRadius (Kerb y) ws = y .radius
 
 unfoldable pub shownIn : Form → ℕ → List ℕ → List Vertex

@@ -7,7 +7,9 @@ use outline::layout::FIRST_EDITION;
 use outline::layout::KERB_KIND;
 use outline::layout::KERB_LEAST;
 use outline::layout::LEAST;
+use outline::layout::SECOND_EDITION;
 use outline::layout::STROKE_KIND;
+use outline::layout::edition_of;
 use outline::layout::whole_length;
 use replies::Refusal;
 use replies::style_rows::style_fault;
@@ -17,7 +19,7 @@ ghost use mathlib.Core.List.{_∷_};
 ghost use Prim.Native.Nat.{_≤_};
 ghost use Rattle.outline.specs.Stores.{gradeIn};
 ghost use Rattle.replies.specs.Replies.{gradeRow};
-ghost use Rattle.heading.specs.StoreRows.{leastOf, styleRowIn};
+ghost use Rattle.heading.specs.StoreRows.{leastOf, misplacedOf, styleRowIn};
 ghost use Rattle.heading.specs.Heads.{KindFits, FormFits, RowsSay, headRows, sizeRows};
 
 // Vertices, and bytes enough for what the header says.
@@ -73,7 +75,8 @@ fn form_rows(s: &[u8], kind: u32) -> Checked
         return Checked::Refused(Refusal::Grade(grade));
     }
     if kind == STROKE_KIND {
-        return size_rows(s, Form::Stroke);
+        let edition = edition_of(word_at(s, 0));
+        return size_rows(s, Form::Stroke(edition));
     }
     style_rows(s)
 }
@@ -88,6 +91,16 @@ fn least(kind: u32) -> usize
     LEAST
 }
 
+// Whether a kerb's outline says that it is of the second edition.
+fn misplaced(kind: u32, edition: u32) -> bool
+    ensures { λ r. ⌜ r ≡ misplacedOf kind edition ⌝ }
+{
+    if kind == KERB_KIND {
+        return edition == SECOND_EDITION;
+    }
+    false
+}
+
 // The rows of the header.
 pub fn head_rows(s: &[u8]) -> Checked
     ensures { λ r. ⌜ RowsSay (now (s .entry)) (headRows (now (s .entry))) r ⌝ }
@@ -95,7 +108,11 @@ pub fn head_rows(s: &[u8]) -> Checked
     if s.len() < LEAST {
         return Checked::Refused(Refusal::NotOutline);
     }
-    if word_at(s, 0) != FIRST_EDITION {
+    let edition = word_at(s, 0);
+    if edition < FIRST_EDITION {
+        return Checked::Refused(Refusal::NotOutline);
+    }
+    if SECOND_EDITION < edition {
         return Checked::Refused(Refusal::NotOutline);
     }
     let kind = word_at(s, 1);
@@ -103,6 +120,9 @@ pub fn head_rows(s: &[u8]) -> Checked
         return Checked::Refused(Refusal::Kind(kind));
     }
     if s.len() < least(kind) {
+        return Checked::Refused(Refusal::NotOutline);
+    }
+    if misplaced(kind, edition) {
         return Checked::Refused(Refusal::NotOutline);
     }
     form_rows(s, kind)

@@ -1,9 +1,10 @@
 // A store's vertices as numbers: three a vertex, of a kerb two.
+use outline::Edition;
 use outline::Form;
-use outline::layout::ENTRY_WORDS;
 use outline::layout::HEADER_WORDS;
 use outline::layout::KERB_ENTRY_WORDS;
 use outline::layout::KERB_HEADER_WORDS;
+use outline::layout::entry_words;
 use words::signed;
 use words::word_at;
 ghost use mathlib.Core.Path.{_≡_};
@@ -12,7 +13,7 @@ ghost use Prim.Native.Nat.{_+_, _*_, _≤_};
 ghost use lib.ListN.{length, drop};
 ghost use Rattle.runs.specs.Runs.{Runs, put};
 ghost use Rattle.paths.specs.Paths.{vertexNumbers};
-ghost use Rattle.outline.specs.Layout.{headerWords, headerBytes, entryBytes, frontBytes};
+ghost use Rattle.outline.specs.Layout.{strokeBytes, headerWords, frontBytes};
 ghost use Rattle.outline.specs.declared.Form.the-variants.{Stroke};
 ghost use Rattle.words.specs.Words.{wordsIn};
 ghost use Rattle.heading.specs.Shows.{lentNumbers, lentWidth, shownIn, shownAt, PointShows, PointsShow};
@@ -22,17 +23,18 @@ pub fn width(form: Form) -> usize
     ensures { λ r. ⌜ r ≡ lentWidth form ⌝ }
 {
     match form {
-        Form::Stroke => 3,
+        Form::Stroke(_) => 3,
         Form::Kerb(_) => 2,
     }
 }
 
 // The k-th vertex of a store as three numbers.
-fn show_vertex(s: &[u8], k: usize, out: &mut [i32])
-    requires { ⌜ (headerBytes Stroke + entryBytes Stroke * k + entryBytes Stroke ≤ length (now s)) × (3 * k + 3 ≤ length (now out)) ⌝ }
-    ensures { λ _. ⌜ Runs put vertexNumbers (now (out .entry)) (3 * k) (shownAt Stroke (now (s .entry)) k ∷ []) (now (out .exit)) (3 * k + 3) ⌝ }
+fn show_vertex(s: &[u8], edition: Edition, k: usize, out: &mut [i32])
+    requires { ⌜ (20 + (strokeBytes edition * k + strokeBytes edition) ≤ length (now s)) × (3 * k + 3 ≤ length (now out)) ⌝ }
+    ensures { λ _. ⌜ Runs put vertexNumbers (now (out .entry)) (3 * k) (shownAt (Stroke edition) (now (s .entry)) k ∷ []) (now (out .exit)) (3 * k + 3) ⌝ }
 {
-    let entry = HEADER_WORDS + ENTRY_WORDS * k;
+    let wide = entry_words(edition);
+    let entry = HEADER_WORDS + wide * k;
     let x = signed(word_at(s, entry));
     let y = signed(word_at(s, entry + 1));
     let radius = signed(word_at(s, entry + 2));
@@ -56,13 +58,13 @@ fn show_point(s: &[u8], k: usize, out: &mut [i32])
 }
 
 // The vertices of a stroke's store, three numbers a vertex.
-fn show_vertices(s: &[u8], n: usize, out: &mut [i32])
-    requires { ⌜ (frontBytes Stroke n ≤ length (now s)) × (3 * n ≤ length (now out)) ⌝ }
-    ensures { λ _. ⌜ Runs put vertexNumbers (now (out .entry)) 0 (shownIn Stroke n (drop (headerWords Stroke) (wordsIn (now (s .entry))))) (now (out .exit)) (3 * n) ⌝ }
+fn show_vertices(s: &[u8], edition: Edition, n: usize, out: &mut [i32])
+    requires { ⌜ (frontBytes (Stroke edition) n ≤ length (now s)) × (3 * n ≤ length (now out)) ⌝ }
+    ensures { λ _. ⌜ Runs put vertexNumbers (now (out .entry)) 0 (shownIn (Stroke edition) n (drop (headerWords (Stroke edition)) (wordsIn (now (s .entry))))) (now (out .exit)) (3 * n) ⌝ }
 {
     let mut k: usize = 0;
     while k < n {
-        show_vertex(s, k, out);
+        show_vertex(s, edition, k, out);
         k += 1;
     }
 }
@@ -85,7 +87,7 @@ pub fn show_path(s: &[u8], form: Form, n: usize, out: &mut [i32])
     ensures { λ _. ⌜ Runs put (lentNumbers form) (now (out .entry)) 0 (shownIn form n (drop (headerWords form) (wordsIn (now (s .entry))))) (now (out .exit)) (lentWidth form * n) ⌝ }
 {
     match form {
-        Form::Stroke => show_vertices(s, n, out),
+        Form::Stroke(e) => show_vertices(s, e, n, out),
         Form::Kerb(_) => show_points(s, n, out),
     }
 }

@@ -12,5 +12,5 @@ kept-back (kept.Bytes n) = refl
 kept-back (kept.Refused r) = from-refusal kept.Bytes kept.Refused r
 
 pub one-keeping : OneKeeping
-one-keeping path g out r q o p h k =
+one-keeping path ps g out r q o p h k =
     (sym (kept-back r) ∙ ap (λ (x : Reply). from kept.Bytes kept.Refused (x .0) (x .1)) (h .reply ∙ sym (k .reply)) ∙ kept-back q, h .out ∙ sym (k .out))

@@ -12,6 +12,7 @@ use lib.Seq.{take-at}
 use Rattle.contacts.proofs.Allowed.{outside-most}
 use Rattle.paths.specs.Paths.{pathOf, edgesOf, Within}
 use Rattle.outline.specs.Outlines.{outlineBytes}
+use Rattle.outline.specs.declared.Edition.the-variants.{Second}
 use Rattle.outline.specs.declared.Form.the-variants.{Stroke}
 use Rattle.replies.specs.Replies.{Reply, triplesRow, gradeRow, countRow, outsideRow, emptyRow, roomRow, pathRows, written}
 use Rattle.replies.proofs.Rows.{NoneHold, first-none, either, rows-append, empty-passes, empty-not, room-enough}
@@ -20,14 +21,14 @@ use Rattle.keeping.specs.Keeping.{writeRows, keepReply, keepOut, PathIsK
 
 pub path-is-kept : PathIsKept
 unfolding keepReply writeRows
-path-is-kept path g room h w s l =
-    let m = length (outlineBytes Stroke g (pathOf path)) in
+path-is-kept path ps g room h w s l =
+    let m = length (outlineBytes (Stroke Second) g ps (pathOf path)) in
     rows-append (pathRows path g) _ _ ∙ within-fits path h w .passed _ ∙ empty-passes (length (pathOf path)) (length (edgesOf g (pathOf path))) _ (0, m) s ∙ room-enough m room m (0, m) l
 
 -- ---- after the reply 0
 
-module _ (path : List ℤ) (g room : ℕ) (h : keepReply path g room .0 ≡ 0) where
-  keep-none : NoneHold (pathRows path g ++ writeRows Stroke g (pathOf path) room)
+module _ (path : List ℤ) (ps : List ℕ) (g room : ℕ) (h : keepReply path ps g room .0 ≡ 0) where
+  keep-none : NoneHold (pathRows path g ++ writeRows (Stroke Second) g ps (pathOf path) room)
   unfolding keepReply writeRows pathRows triplesRow gradeRow countRow outsideRow emptyRow roomRow
   keep-none = first-none _ _ (refl, (refl, (refl, (refl, (refl, (refl, tt)))))) h
 
@@ -42,7 +43,7 @@ module _ (path : List ℤ) (g room : ℕ) (h : keepReply path g room .0 ≡ 0) w
       let e = either _ _ (r .1 .0) in
       record { low = ltb-false _ _ (e .0); high = ltb-false _ _ (e .1); count = ltb-false _ _ (r .1 .1 .0); inside = le-antisymm (outside-most (pathOf path)) (ltb-false _ _ (r .1 .1 .1 .0)) }
 
-  keep-room : length (outlineBytes Stroke g (pathOf path)) ≤ room
+  keep-room : length (outlineBytes (Stroke Second) g ps (pathOf path)) ≤ room
   unfolding pathRows writeRows roomRow
   keep-room = ltb-false _ _ (keep-none .1 .1 .1 .1 .1 .0)
 
@@ -50,18 +51,18 @@ module _ (path : List ℤ) (g room : ℕ) (h : keepReply path g room .0 ≡ 0) w
   unfolding pathRows writeRows
   keep-some = empty-not _ _ (keep-none .1 .1 .1 .1 .0)
 
-pub keep-out : (path : List ℤ) (g : ℕ) (out : List ℕ) → keepReply path g (length out) .0 ≡ 0 → keepOut path g out ≡ outlineBytes Stroke g (pathOf path) ++ drop (length (outlineBytes Stroke g (pathOf path))) out
+pub keep-out : (path : List ℤ) (ps : List ℕ) (g : ℕ) (out : List ℕ) → keepReply path ps g (length out) .0 ≡ 0 → keepOut path ps g out ≡ outlineBytes (Stroke Second) g ps (pathOf path) ++ drop (length (outlineBytes (Stroke Second) g ps (pathOf path))) out
 unfolding keepOut written
-keep-out path g out h = rw (h, written)
+keep-out path ps g out h = rw (h, written)
 
 pub one-outline-kept : OneOutlineKept
-one-outline-kept path g m a b e l =
-    let h : keepReply path g (length a) .0 ≡ 0 = ap (λ (r : Reply). r .0) e in
-    let made = outlineBytes Stroke g (pathOf path) in
-    let kept : (room : ℕ) → length made ≤ room → keepReply path g room ≡ (0, length made) =
-    λ room. path-is-kept path g room (keep-triples path g (length a) h) (keep-within path g (length a) h) (keep-some path g (length a) h) in
-    let n : length made ≡ m = ap (λ (r : Reply). r .1) (sym (kept (length a) (keep-room path g (length a) h)) ∙ e) in
-    let f : keepReply path g (length b) ≡ (0, m) = kept (length b) (omega arith) ∙ ap (λ (x : ℕ). (0, x)) n in (
+one-outline-kept path ps g m a b e l =
+    let h : keepReply path ps g (length a) .0 ≡ 0 = ap (λ (r : Reply). r .0) e in
+    let made = outlineBytes (Stroke Second) g ps (pathOf path) in
+    let kept : (room : ℕ) → length made ≤ room → keepReply path ps g room ≡ (0, length made) =
+    λ room. path-is-kept path ps g room (keep-triples path ps g (length a) h) (keep-within path ps g (length a) h) (keep-some path ps g (length a) h) in
+    let n : length made ≡ m = ap (λ (r : Reply). r .1) (sym (kept (length a) (keep-room path ps g (length a) h)) ∙ e) in
+    let f : keepReply path ps g (length b) ≡ (0, m) = kept (length b) (omega arith) ∙ ap (λ (x : ℕ). (0, x)) n in (
       f,
-      ap (take m) (keep-out path g b (ap (λ (r : Reply). r .0) f)) ∙ take-at made _ m n ∙ sym (ap (take m) (keep-out path g a h) ∙ take-at made _ m n),
+      ap (take m) (keep-out path ps g b (ap (λ (r : Reply). r .0) f)) ∙ take-at made _ m n ∙ sym (ap (take m) (keep-out path ps g a h) ∙ take-at made _ m n),
     )

@@ -46,14 +46,14 @@ clear-end {to = to} {i} h l = let k : to - i ≡ 0 = omega arith in sym (h .on �
 
 -- ---- written
 
-pub needed-is : (f : Form) (g : ℕ) (vs : List Vertex) {n m needed : ℕ} → n ≡ length vs → m ≡ length (edgesFor f g vs) → needed ≡ lengthOf f n m → needed ≡ length (outlineBytes f g vs)
-needed-is f g vs en em e = e ∙ (λ i. lengthOf f (en i) (em i)) ∙ sym (outline-length f g vs)
+pub needed-is : (f : Form) (g : ℕ) (ps : List ℕ) (vs : List Vertex) {n m needed : ℕ} → n ≡ length vs → m ≡ length (edgesFor f g vs) → needed ≡ lengthOf f n m → needed ≡ length (outlineBytes f g ps vs)
+needed-is f g ps vs en em e = e ∙ (λ i. lengthOf f (en i) (em i)) ∙ sym (outline-length f g ps vs)
 
-pub write-done : (f : Form) (g : ℕ) (vs : List Vertex) (s : List ℕ) (old : ℕ) {s₁ s₂ : List ℕ} {end : ℕ} → Runs put fourBytes s 0 (outlineWords f g vs) s₁ end
-    → s₂ ≡ over put s₁ end (replicate (old - end) 0) → length (outlineBytes f g vs) ≤ length s → old ≤ length s → Writes s (outlineBytes f g vs) old end s₂
+pub write-done : (f : Form) (g : ℕ) (ps : List ℕ) (vs : List Vertex) (s : List ℕ) (old : ℕ) {s₁ s₂ : List ℕ} {end : ℕ} → Runs put fourBytes s 0 (outlineWords f g ps vs) s₁ end
+    → s₂ ≡ over put s₁ end (replicate (old - end) 0) → length (outlineBytes f g ps vs) ≤ length s → old ≤ length s → Writes s (outlineBytes f g ps vs) old end s₂
 unfolding outlineBytes bytesOf
-write-done f g vs s old {s₁} {s₂} {end} p q h o =
-    let new = spread fourBytes (outlineWords f g vs) in
+write-done f g ps vs s old {s₁} {s₂} {end} p q h o =
+    let new = spread fourBytes (outlineWords f g ps vs) in
     let e : end ≡ length new = p .pos ∙ zero-add (length new) in
     let zeros = replicate {A = ℕ} (old - length new) 0 in
     let n : length (new ++ zeros) ≤ length s = omega (arith, length-append new zeros, length-replicate {A = ℕ} (old - length new) 0) in
@@ -66,8 +66,8 @@ write-done f g vs s old {s₁} {s₂} {end} p q h o =
 
 -- ---- the rows before it
 
-module _ (f : Form) (g : ℕ) (vs : List Vertex) (s : List ℕ) (old : ℕ) {n m : ℕ} (en : n ≡ length vs) (em : m ≡ length (edgesFor f g vs)) where
-  pub rewrite-empty : emptyRow n m .0 ≡ true → Rewrites s f g vs old (Refused (WithoutEdges n)) s
+module _ (f : Form) (g : ℕ) (ps : List ℕ) (vs : List Vertex) (s : List ℕ) (old : ℕ) {n m : ℕ} (en : n ≡ length vs) (em : m ≡ length (edgesFor f g vs)) where
+  pub rewrite-empty : emptyRow n m .0 ≡ true → Rewrites s f g ps vs old (Refused (WithoutEdges n)) s
   unfolding replyOfKept refusalOf writeRows emptyRow
   rewrite-empty h =
       let k : emptyRow (length vs) (length (edgesFor f g vs)) .0 ≡ true = rw (en, em) at h in
@@ -77,19 +77,19 @@ module _ (f : Form) (g : ℕ) (vs : List Vertex) (s : List ℕ) (old : ℕ) {n m
     some : 0 < length vs → 0 < length (edgesFor f g vs)
     some = rw (en, em) at (empty-not n m h)
 
-    pub rewrite-short : {needed : ℕ} → needed ≡ length (outlineBytes f g vs) → length s < needed → Rewrites s f g vs old (Refused (NoRoom needed)) s
+    pub rewrite-short : {needed : ℕ} → needed ≡ length (outlineBytes f g ps vs) → length s < needed → Rewrites s f g ps vs old (Refused (NoRoom needed)) s
     unfolding replyOfKept refusalOf writeRows
     rewrite-short e l =
-        let k = length (outlineBytes f g vs) in
+        let k = length (outlineBytes f g ps vs) in
         record {
           reply = ap (λ (x : ℕ). (5, x)) e ∙ sym (empty-passes (length vs) (length (edgesFor f g vs)) _ (0, k) some ∙ room-short k (length s) k (0, k) (omega arith));
           bytes = refused-written (NoRoom _) _ s refl;
         }
 
-    pub rewrite-done : {s₁ : List ℕ} {end : ℕ} → length (outlineBytes f g vs) ≤ length s → Writes s (outlineBytes f g vs) old end s₁ → Rewrites s f g vs old (Bytes end) s₁
+    pub rewrite-done : {s₁ : List ℕ} {end : ℕ} → length (outlineBytes f g ps vs) ≤ length s → Writes s (outlineBytes f g ps vs) old end s₁ → Rewrites s f g ps vs old (Bytes end) s₁
     unfolding replyOfKept writeRows
     rewrite-done l w =
-        let k = length (outlineBytes f g vs) in
+        let k = length (outlineBytes f g ps vs) in
         record {
           reply = ap (λ (x : ℕ). (0, x)) (w .long) ∙ sym (empty-passes (length vs) (length (edgesFor f g vs)) _ (0, k) some ∙ room-enough k (length s) k (0, k) l);
           bytes = w .bytes;

@@ -8,6 +8,7 @@ use Rattle.plane.specs.declared.Vector.{Vector}
 use Rattle.variable_stroke.specs.Chains.{emittedOf, nextOf}
 use Rattle.contacts.specs.declared.Vertex.{Vertex}
 use Rattle.words.specs.Words.{fourBytes}
+use Rattle.outline.specs.declared.Edition.{Edition}
 use Rattle.outline.specs.Outlines.{entryOf, bodyWords}
 use Rattle.keeping.specs.declared.filling.Filling.{Filling}
 
@@ -22,7 +23,7 @@ pub record Both (l₀ : List ℕ) (t : ℕ) (xs : List ℕ) (b : ℕ) (ys : List
   pub pos : e ≡ b + length (spread fourBytes ys)
 
 -- a step to the vertex v: its entry and its body
-pub record StepFills (t : Vector) (l₀ : List ℕ) (f : Filling) (v : Vertex) (l₁ : List ℕ) (g : Filling) : Type 0 where
+pub record StepFills (e : Edition) (t : Vector) (l₀ : List ℕ) (f : Filling) (v : Vertex) (post : ℕ) (l₁ : List ℕ) (g : Filling) : Type 0 where
   pub walk : g .walk ≡ nextOf (f .walk) v
-  pub table : g .table ≡ f .table + length (spread fourBytes (entryOf v (length (emittedOf t (f .walk) v))))
-  pub both : Both l₀ (f .table) (entryOf v (length (emittedOf t (f .walk) v))) (f .bodies) (bodyWords (emittedOf t (f .walk) v)) l₁ (g .bodies)
+  pub table : g .table ≡ f .table + length (spread fourBytes (entryOf e v post (length (emittedOf t (f .walk) v))))
+  pub both : Both l₀ (f .table) (entryOf e v post (length (emittedOf t (f .walk) v))) (f .bodies) (bodyWords (emittedOf t (f .walk) v)) l₁ (g .bodies)

@@ -15,7 +15,7 @@ pub record Writes (s₀ new : List ℕ) (old end : ℕ) (s₁ : List ℕ) : Type
   pub long : end ≡ length new
   pub bytes : s₁ ≡ written (0, end) (new ++ replicate (old - length new) 0) s₀
 
--- the outline of a path, by its form and grade, once its rows are passed: the row of a path without edges and that of the room reply, and after 0 it is written
-pub record Rewrites (s₀ : List ℕ) (f : Form) (g : ℕ) (vs : List Vertex) (old : ℕ) (answer : Kept) (s₁ : List ℕ) : Type 0 where
-  pub reply : replyOfKept answer ≡ firstRow (writeRows f g vs (length s₀)) (0, length (outlineBytes f g vs))
-  pub bytes : s₁ ≡ written (replyOfKept answer) (outlineBytes f g vs ++ replicate (old - length (outlineBytes f g vs)) 0) s₀
+-- the outline of a path and its posts, by its form and grade, once its rows are passed: the row of a path without edges and that of the room reply, and after 0 it is written
+pub record Rewrites (s₀ : List ℕ) (f : Form) (g : ℕ) (ps : List ℕ) (vs : List Vertex) (old : ℕ) (answer : Kept) (s₁ : List ℕ) : Type 0 where
+  pub reply : replyOfKept answer ≡ firstRow (writeRows f g ps vs (length s₀)) (0, length (outlineBytes f g ps vs))
+  pub bytes : s₁ ≡ written (replyOfKept answer) (outlineBytes f g ps vs ++ replicate (old - length (outlineBytes f g ps vs)) 0) s₀

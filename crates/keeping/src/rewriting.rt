@@ -1,6 +1,7 @@
 // The outline of a path written into lent bytes: counted, held against its rows, filled in, with zeros up to an old end.
 use crate::Kept;
 use crate::filling::outline;
+use outline::Edition;
 use outline::Form;
 use outline::layout::whole_length;
 use paths::paths::walk;
@@ -41,18 +42,20 @@ pub fn count(path: &[i32], n: usize, grade: u32) -> usize
 // The outline of a path of m edges, none too, over lent bytes that hold it and in which an old one ends at `old`.
 pub fn write(
     path: &[i32],
+    posts: &[u32],
     n: usize,
     m: usize,
+    edition: Edition,
     grade: u32,
     old: usize,
     own: &mut [i32],
     s: &mut [u8],
 ) -> usize
     requires { ⌜ (n ≡ length (pathOf (now path))) × Within grade (pathOf (now path)) × (36908 ≤ length (now own)) ⌝ }
-    requires { ⌜ (m ≡ length (edgesOf grade (pathOf (now path)))) × (length (outlineBytes Stroke grade (pathOf (now path))) ≤ length (now s)) × (old ≤ length (now s)) ⌝ }
-    ensures { λ r. ⌜ Writes (now (s .entry)) (outlineBytes Stroke grade (pathOf (now (path .entry)))) old r (now (s .exit)) ⌝ }
+    requires { ⌜ (m ≡ length (edgesOf grade (pathOf (now path)))) × (length (outlineBytes (Stroke edition) grade (now posts) (pathOf (now path))) ≤ length (now s)) × (old ≤ length (now s)) ⌝ }
+    ensures { λ r. ⌜ Writes (now (s .entry)) (outlineBytes (Stroke edition) grade (now (posts .entry)) (pathOf (now (path .entry)))) old r (now (s .exit)) ⌝ }
 {
-    let end = outline(path, n, m, grade, own, s);
+    let end = outline(path, posts, n, m, edition, grade, own, s);
     clear(s, end, old);
     end
 }
@@ -61,17 +64,19 @@ pub fn write(
 // and replace share.
 pub fn rewrite(
     path: &[i32],
+    posts: &[u32],
     n: usize,
+    edition: Edition,
     grade: u32,
     old: usize,
     own: &mut [i32],
     s: &mut [u8],
 ) -> Kept
     requires { ⌜ Fits (now path) grade n × (old ≤ length (now s)) × (36908 ≤ length (now own)) ⌝ }
-    ensures { λ r. ⌜ Rewrites (now (s .entry)) Stroke grade (pathOf (now (path .entry))) old r (now (s .exit)) ⌝ }
+    ensures { λ r. ⌜ Rewrites (now (s .entry)) (Stroke edition) grade (now (posts .entry)) (pathOf (now (path .entry))) old r (now (s .exit)) ⌝ }
 {
     let m = count(path, n, grade);
-    let needed = whole_length(Form::Stroke, n, m);
+    let needed = whole_length(Form::Stroke(edition), n, m);
     let empty = without_edges(n, m);
     if empty {
         return Kept::Refused(Refusal::WithoutEdges(n));
@@ -79,5 +84,5 @@ pub fn rewrite(
     if s.len() < needed {
         return Kept::Refused(Refusal::NoRoom(needed));
     }
-    Kept::Bytes(write(path, n, m, grade, old, own, s))
+    Kept::Bytes(write(path, posts, n, m, edition, grade, old, own, s))
 }

@@ -99,14 +99,14 @@ module _ (g : ℕ) (y : Style) (vs : List Vertex) {n : ℕ} (en : n ≡ length v
   -- it begins with the points
   module _ (s : List ℕ) {ok : ℕ} (p : Runs (agree s) fourBytes 32 32 (spread pointWords vs) ok (32 + 8 * n)) where
     whole-agrees : {t b e : ℕ} → Runs (agree s) fourBytes ok (32 + 8 * n) (countsOf (kerbBodies g y vs)) t (32 + 8 * n + 12) → Runs (agree s) fourBytes (44 + 8 * n) (44 + 8 * n) (bodyWords (kerbEdges g y vs)) b e
-        → Agrees s (Kerb y) g vs (record { table = t; bodies = b; end = e })
+        → Agrees s (Kerb y) g [] vs (record { table = t; bodies = b; end = e })
     unfolding kerbTable
     whole-agrees {t} q r =
         let u : Runs (agree s) fourBytes 32 32 (spread pointWords vs ++ countsOf (kerbBodies g y vs)) t (44 + 8 * n) = runs-to (omega arith) (runs-then p q) in
         record { table = rw en at u; bodies = rw en at r }
 
     -- without edges
-    pub bare-agrees : {r : Compared} → countsOf (kerbBodies g y vs) ≡ 0 ∷ 0 ∷ 0 ∷ [] → bodyWords (kerbEdges g y vs) ≡ [] → NoBodies s ok (32 + 8 * n) (44 + 8 * n) r → Agrees s (Kerb y) g vs r
+    pub bare-agrees : {r : Compared} → countsOf (kerbBodies g y vs) ≡ 0 ∷ 0 ∷ 0 ∷ [] → bodyWords (kerbEdges g y vs) ≡ [] → NoBodies s ok (32 + 8 * n) (44 + 8 * n) r → Agrees s (Kerb y) g [] vs r
     bare-agrees {r} e f h = whole-agrees (runs-as e (h .table)) (rw (h .bodies, h .end) (runs-as f runs-none))
 
     -- with a tour from its first point: t is the step, w the tour's start
@@ -118,7 +118,7 @@ module _ (g : ℕ) (y : Style) (vs : List Vertex) {n : ℕ} (en : n ≡ length v
         count = omega (arith, ap length (edges-start g y vs some wide et ew), few-edges (Kerb y) g vs few);
       }
 
-      pub tour-agrees : {r : Compared} → TourAgrees t y vs s (record { tour = w; count = 0; table = ok; entry = 32 + 8 * n; bodies = 44 + 8 * n; at = 44 + 8 * n }) r → Agrees s (Kerb y) g vs r
+      pub tour-agrees : {r : Compared} → TourAgrees t y vs s (record { tour = w; count = 0; table = ok; entry = 32 + 8 * n; bodies = 44 + 8 * n; at = 44 + 8 * n }) r → Agrees s (Kerb y) g [] vs r
       tour-agrees h =
           let e = counts-start g y vs some wide et ew in
           whole-agrees (runs-to (omega (arith, ap (λ (l : List ℕ). length (spread fourBytes l)) (sym e), counts-three g y vs)) (runs-as e (h .table))) (runs-as (words-start g y vs some wide et ew) (h .bodies))

@@ -16,6 +16,7 @@ use words::same_word;
 use words::wide_bits;
 ghost use mathlib.Core.Bool.{false};
 ghost use mathlib.Core.Path.{_≡_};
+ghost use mathlib.Core.List.{[]};
 ghost use Prim.Native.Nat.{_+_, _*_, _^_, _≤_, _<_};
 ghost use lib.ListN.{length};
 ghost use Rattle.runs.specs.Runs.{Runs, agree, spread};
@@ -181,7 +182,7 @@ pub fn compare_kerb(
     s: &[u8],
 ) -> Compared
     requires { ⌜ (n ≡ length (kerbPath (y .radius) (now points))) × Within grade (kerbPath (y .radius) (now points)) × Radius (y .radius) × (36908 ≤ length (now own)) ⌝ }
-    ensures { λ r. ⌜ Agrees (now (s .entry)) (Kerb y) grade (kerbPath (y .radius) (now (points .entry))) r ⌝ }
+    ensures { λ r. ⌜ Agrees (now (s .entry)) (Kerb y) grade [] (kerbPath (y .radius) (now (points .entry))) r ⌝ }
 {
     let base = KERB_LEAST + KERB_ENTRY * n;
     let entry = KERB_HEADER + KERB_ENTRY * n;

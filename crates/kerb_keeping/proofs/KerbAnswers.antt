@@ -1,6 +1,6 @@
 -- What keep makes of a kerb: the rows' refusal, or the outline where the rows of writing let it; and its promise allows one outcome. Assumes nothing.
 use mathlib.Core.Path.{_≡_, sym, ap, _∙_}
-use mathlib.Core.List.{List}
+use mathlib.Core.List.{List, []}
 use Prim.Native.Nat.{ℕ, _-_}
 use lib.IntN.{ℤ, pos}
 use lib.ListN.{length}
@@ -36,7 +36,7 @@ module _ (l : List ℤ) {g r j c n : ℕ} (h : KerbFits l g r j c n) {y : Style}
       let p = path-told l r j c e in
       (h .count ∙ ap length (sym p), rw p (h .within), style-radius r j c (h .radius) e)
 
-  pub kerb-keeps : {out out₁ : List ℕ} {a : Kept} → Rewrites out (Kerb y) g (kerbPath (y .radius) l) 0 a out₁ → KeepsKerb l g r j c out a out₁
+  pub kerb-keeps : {out out₁ : List ℕ} {a : Kept} → Rewrites out (Kerb y) g [] (kerbPath (y .radius) l) 0 a out₁ → KeepsKerb l g r j c out a out₁
   unfolding keepKerbReply keepKerbOut kerbBytes
   kerb-keeps {out} {a = a} w =
       let p = path-told l r j c e in
@@ -54,7 +54,7 @@ kerb-keeps-refused l {g} {r} {j} {c} out {x} s e =
 pub kerb-is-kept : KerbIsKept
 unfolding keepKerbReply writeRows kerbBytes
 kerb-is-kept l g r j c room h s w some k =
-    let m = length (outlineBytes (kerbForm r j c) g (kerbPath (pos r) l)) in
+    let m = length (outlineBytes (kerbForm r j c) g [] (kerbPath (pos r) l)) in
     rows-append (kerbRows l g r j c) _ _ ∙ within-passes l h s w .passed _ ∙ empty-passes _ _ _ (0, m) some ∙ room-enough m room m (0, m) k
 
 pub one-kerb-keeping : OneKerbKeeping

@@ -113,7 +113,7 @@ module _ (g : ℕ) (y : Style) (vs : List Vertex) {n m : ℕ} (en : n ≡ length
     pub table-at : table ≡ 32 + 8 * n
     table-at = omega (arith, q .pos, points-bytes vs, en)
 
-    whole : {l₃ : List ℕ} {e : ℕ} → Runs put fourBytes l₂ table (countsOf (kerbBodies g y vs) ++ bodyWords (kerbEdges g y vs)) l₃ e → Runs put fourBytes l 0 (outlineWords (Kerb y) g vs) l₃ e
+    whole : {l₃ : List ℕ} {e : ℕ} → Runs put fourBytes l₂ table (countsOf (kerbBodies g y vs) ++ bodyWords (kerbEdges g y vs)) l₃ e → Runs put fourBytes l 0 (outlineWords (Kerb y) g [] vs) l₃ e
     unfolding outlineWords partsWords kerbTable
     whole r = runs-as shape (runs-then front r)
       where
@@ -123,7 +123,7 @@ module _ (g : ℕ) (y : Style) (vs : List Vertex) {n m : ℕ} (en : n ≡ length
 
     -- without edges
     pub bare-written : {l₃ : List ℕ} {e : ℕ} → countsOf (kerbBodies g y vs) ≡ 0 ∷ 0 ∷ 0 ∷ [] → bodyWords (kerbEdges g y vs) ≡ [] → Runs put fourBytes l₂ table (0 ∷ 0 ∷ 0 ∷ []) l₃ e
-        → Runs put fourBytes l 0 (outlineWords (Kerb y) g vs) l₃ e
+        → Runs put fourBytes l 0 (outlineWords (Kerb y) g [] vs) l₃ e
     bare-written ec ew r = whole (runs-as (ap (λ (xs : List ℕ). xs ++ bodyWords (kerbEdges g y vs)) ec ∙ ap (λ (xs : List ℕ). (0 ∷ 0 ∷ 0 ∷ []) ++ xs) ew) r)
 
     -- with a tour from its first point: t is the step, w the tour's start
@@ -144,5 +144,5 @@ module _ (g : ℕ) (y : Style) (vs : List Vertex) {n m : ℕ} (en : n ≡ length
       pub tour-apart : Apart table (countsAhead t y vs 0 w) (44 + 8 * n) (wordsAhead t y vs w)
       tour-apart = record { apart = omega (arith, table-at, counts-long); fits = omega (arith, en, few, words-long, few-edges (Kerb y) g vs few) }
 
-      pub tour-written : {l₃ : List ℕ} {e : ℕ} → Both l₂ table (countsAhead t y vs 0 w) (44 + 8 * n) (wordsAhead t y vs w) l₃ e → Runs put fourBytes l 0 (outlineWords (Kerb y) g vs) l₃ e
+      pub tour-written : {l₃ : List ℕ} {e : ℕ} → Both l₂ table (countsAhead t y vs 0 w) (44 + 8 * n) (wordsAhead t y vs w) l₃ e → Runs put fourBytes l 0 (outlineWords (Kerb y) g [] vs) l₃ e
       tour-written b = whole (both-one (omega (arith, table-at, counts-three g y vs)) (both-as (counts-start g y vs some wide et ew) (words-start g y vs some wide et ew) b))

@@ -27,7 +27,7 @@ all-radius r (x ∷ []) = tt
 all-radius r (x ∷ y ∷ l) = (refl, all-radius r l)
 
 module _ (l : List ℤ) (g r j c room : ℕ) (h : keepKerbReply l g r j c room .0 ≡ 0) where
-  pub kerb-none : NoneHold (kerbRows l g r j c ++ writeRows (kerbForm r j c) g (kerbPath (pos r) l) room)
+  pub kerb-none : NoneHold (kerbRows l g r j c ++ writeRows (kerbForm r j c) g [] (kerbPath (pos r) l) room)
   unfolding keepKerbReply writeRows kerbRows pairsRow gradeRow styleRow countRow outsideRow emptyRow roomRow
   kerb-none = first-none _ _ (refl, (refl, (refl, (refl, (refl, (refl, (refl, tt))))))) h
 
@@ -35,7 +35,7 @@ module _ (l : List ℤ) (g r j c room : ℕ) (h : keepKerbReply l g r j c room .
   unfolding kerbRows pairsRow
   kerb-pairs = eqb-true _ _ (not-false _ (kerb-none .0))
 
-  pub kerb-formed : Formed (kerbForm r j c) g (kerbPath (pos r) l)
+  pub kerb-formed : Formed (kerbForm r j c) g [] (kerbPath (pos r) l)
   unfolding kerbRows gradeRow styleRow countRow outsideRow styleOf
   kerb-formed =
       let n = kerb-none in
@@ -44,7 +44,7 @@ module _ (l : List ℤ) (g r j c room : ℕ) (h : keepKerbReply l g r j c room .
       let z : styleFault r j c ≡ 0 = omega (arith, f) in
       let vs = kerbPath (pos r) l in (
         record { low = ltb-false _ _ (e .0); high = ltb-false _ _ (e .1); count = ltb-false _ _ (n .1 .1 .1 .0); inside = le-antisymm (outside-most vs) (ltb-false _ _ (n .1 .1 .1 .1 .0)) },
-        (style-radius r j c {y = styleOf r j c} (faultless r j c z .0) refl, all-radius (pos r) l),
+        (style-radius r j c {y = styleOf r j c} (faultless r j c z .0) refl, all-radius (pos r) l, refl),
       )
 
 pub kerb-out : (l : List ℤ) (g r j c : ℕ) (out : List ℕ) → keepKerbReply l g r j c (length out) .0 ≡ 0 → keepKerbOut l g r j c out ≡ kerbBytes l g r j c ++ drop (length (kerbBytes l g r j c)) out

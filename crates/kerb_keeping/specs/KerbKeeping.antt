@@ -1,6 +1,6 @@
 -- Document 02, request 3: keep of a kerb, its rows, its answer's reply and its promise.
 use mathlib.Core.Path.{_≡_}
-use mathlib.Core.List.{List, _++_}
+use mathlib.Core.List.{List, [], _++_}
 use Prim.Native.Nat.{ℕ, _%_, _≤_, _<_}
 use lib.IntN.{ℤ, pos}
 use lib.ListN.{length}
@@ -21,11 +21,11 @@ abbrev pub kerbForm : ℕ → ℕ → ℕ → Form
 kerbForm r j c = Kerb (styleOf r j c)
 
 unfoldable pub kerbBytes : List ℤ → ℕ → ℕ → ℕ → ℕ → List ℕ
-kerbBytes l g r j c = outlineBytes (kerbForm r j c) g (kerbPath (pos r) l)
+kerbBytes l g r j c = outlineBytes (kerbForm r j c) g [] (kerbPath (pos r) l)
 
 -- 1, 3, 11, 2, 4, then 18 and 5.
 unfoldable pub keepKerbReply : List ℤ → ℕ → ℕ → ℕ → ℕ → ℕ → Reply
-keepKerbReply l g r j c room = firstRow (kerbRows l g r j c ++ writeRows (kerbForm r j c) g (kerbPath (pos r) l) room) (0, length (kerbBytes l g r j c))
+keepKerbReply l g r j c room = firstRow (kerbRows l g r j c ++ writeRows (kerbForm r j c) g [] (kerbPath (pos r) l) room) (0, length (kerbBytes l g r j c))
 
 unfoldable pub keepKerbOut : List ℤ → ℕ → ℕ → ℕ → ℕ → List ℕ → List ℕ
 keepKerbOut l g r j c room = written (keepKerbReply l g r j c (length room)) (kerbBytes l g r j c) room

@@ -181,7 +181,7 @@ pub fn kerb_outline(
 ) -> usize
     requires { ⌜ (n ≡ length (kerbPath (y .radius) (now points))) × Within grade (kerbPath (y .radius) (now points)) × Radius (y .radius) × (36908 ≤ length (now own)) ⌝ }
     requires { ⌜ m ≡ length (kerbEdges grade y (kerbPath (y .radius) (now points))) ⌝ }
-    ensures { λ r. ⌜ Runs put fourBytes (now (s .entry)) 0 (outlineWords (Kerb y) grade (kerbPath (y .radius) (now (points .entry)))) (now (s .exit)) r ⌝ }
+    ensures { λ r. ⌜ Runs put fourBytes (now (s .entry)) 0 (outlineWords (Kerb y) grade [] (kerbPath (y .radius) (now (points .entry)))) (now (s .exit)) r ⌝ }
 {
     put_header(s, y, grade, n as u32, m as u32);
     let table = put_points(points, n, y, s);

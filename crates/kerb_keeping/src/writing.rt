@@ -9,6 +9,7 @@ use outline::layout::whole_length;
 use replies::Refusal;
 use replies::path_rows::without_edges;
 ghost use mathlib.Core.Path.{_≡_};
+ghost use mathlib.Core.List.{[]};
 ghost use Prim.Native.Nat.{_≤_};
 ghost use lib.ListN.{length};
 ghost use Rattle.turning.specs.Bounds.{Radius};
@@ -40,8 +41,8 @@ pub fn write_kerb(
     s: &mut [u8],
 ) -> usize
     requires { ⌜ (n ≡ length (kerbPath (y .radius) (now points))) × Within grade (kerbPath (y .radius) (now points)) × Radius (y .radius) × (36908 ≤ length (now own)) ⌝ }
-    requires { ⌜ (m ≡ length (kerbEdges grade y (kerbPath (y .radius) (now points)))) × (length (outlineBytes (Kerb y) grade (kerbPath (y .radius) (now points))) ≤ length (now s)) × (old ≤ length (now s)) ⌝ }
-    ensures { λ r. ⌜ Writes (now (s .entry)) (outlineBytes (Kerb y) grade (kerbPath (y .radius) (now (points .entry)))) old r (now (s .exit)) ⌝ }
+    requires { ⌜ (m ≡ length (kerbEdges grade y (kerbPath (y .radius) (now points)))) × (length (outlineBytes (Kerb y) grade [] (kerbPath (y .radius) (now points))) ≤ length (now s)) × (old ≤ length (now s)) ⌝ }
+    ensures { λ r. ⌜ Writes (now (s .entry)) (outlineBytes (Kerb y) grade [] (kerbPath (y .radius) (now (points .entry)))) old r (now (s .exit)) ⌝ }
 {
     let end = kerb_outline(points, n, m, grade, y, own, s);
     clear(s, end, old);
@@ -59,7 +60,7 @@ pub fn rewrite_kerb(
     s: &mut [u8],
 ) -> Kept
     requires { ⌜ (n ≡ length (kerbPath (y .radius) (now points))) × Within grade (kerbPath (y .radius) (now points)) × Radius (y .radius) × (36908 ≤ length (now own)) × (old ≤ length (now s)) ⌝ }
-    ensures { λ r. ⌜ Rewrites (now (s .entry)) (Kerb y) grade (kerbPath (y .radius) (now (points .entry))) old r (now (s .exit)) ⌝ }
+    ensures { λ r. ⌜ Rewrites (now (s .entry)) (Kerb y) grade [] (kerbPath (y .radius) (now (points .entry))) old r (now (s .exit)) ⌝ }
 {
     let m = count_kerb(points, n, grade, y);
     let needed = whole_length(Form::Kerb(y), n, m);

@@ -15,12 +15,16 @@ use Rattle.runs.proofs.Laws.{spread-append}
 use Rattle.turning.specs.declared.Edge.{Edge}
 use Rattle.paths.specs.Paths.{bodiesOf, joined, edgesOf, Within}
 use Rattle.contacts.specs.declared.Vertex.{Vertex}
-use Rattle.outline.specs.Layout.{headerWords, entryWords, entryAt, edgeBytes, lengthOf}
+use Rattle.outline.specs.Layout.{countPlace, strokeWords, headerWords, entryAt, edgeBytes, lengthOf}
+use Rattle.outline.specs.declared.Edition.{Edition}
+use Rattle.outline.specs.declared.Edition.the-variants.{First, Second}
 use Rattle.outline.specs.declared.Form.the-variants.{Stroke}
 use Rattle.words.specs.Words.{fourBytes, bytesOf, wordsIn, wordAt}
-use Rattle.outline.specs.Outlines.{styleWords, headerOf, entryOf, tableOf, bodyWords, partsWords, outlineWords, outlineBytes}
-use Rattle.outline.specs.Stores.{countIn, edgesIn, edgesBefore, bodyBytesIn}
-use Rattle.outline.proofs.ReadBack.{bodies-count, stroke-length, numbers-length, header-word, count-back}
+use Rattle.outline.specs.Outlines.{styleWords, headerOf, postWords, entryOf, tableOf, bodyWords, partsWords, outlineWords, outlineBytes}
+use Rattle.outline.specs.Stores.{editionIn, editionOf, countIn, edgesIn, edgesBefore, bodyBytesIn}
+use Rattle.outline.proofs.ReadBack.{bodies-count, stroke-length, numbers-length, header-word, count-back, edition-is}
+use Rattle.outline.proofs.FormLengths.{entries-four}
+use Rattle.outline.specs.Theorems.{Formed}
 use Rattle.words.proofs.Bytes.{bytes-length}
 use Rattle.outline.proofs.Parts.{body-append}
 
@@ -44,55 +48,80 @@ module _ (bs : List (List Edge)) (i : ℕ) (h : i < length bs) where
 
 -- ---- the counts in a table
 
-entry-count : (vs : List Vertex) (bs : List (List Edge)) (ws : List ℕ) (i : ℕ) → length bs ≡ suc (length vs) → i < length vs → getD (tableOf vs bs ++ ws) (3 + 4 * i) 0 ≡ length (getD bs i [])
-unfolding tableOf entryOf
-entry-count [] bs ws i h l = absurd (omega arith)
-entry-count (v ∷ vs) [] ws i h l = absurd (omega arith)
-entry-count (v ∷ vs) (b ∷ bs) ws zero h l = refl
-entry-count (v ∷ vs) (b ∷ bs) ws (suc i) h l =
-    let e : 3 + 4 * suc i ≡ suc (suc (suc (suc (3 + 4 * i)))) = omega arith in
-    rw e (entry-count vs bs ws i (omega arith) (omega arith))
+-- the words of an entry are passed
+entry-past : (e : Edition) (v : Vertex) (post count : ℕ) (ws : List ℕ) (i j : ℕ) → getD (entryOf e v post count ++ ws) (j + strokeWords e * suc i) 0 ≡ getD ws (j + strokeWords e * i) 0
+unfolding entryOf postWords strokeWords countPlace
+entry-past First v post count ws i j =
+    let q : j + 4 * suc i ≡ suc (suc (suc (suc (j + 4 * i)))) = omega arith in
+    rw q refl
+entry-past Second v post count ws i j =
+    let q : j + 5 * suc i ≡ suc (suc (suc (suc (suc (j + 5 * i))))) = omega arith in
+    rw q refl
 
-closing-count : (vs : List Vertex) (bs : List (List Edge)) (ws : List ℕ) → length bs ≡ suc (length vs) → getD (tableOf vs bs ++ ws) (4 * length vs) 0 ≡ length (getD bs (length vs) [])
-unfolding tableOf entryOf
-closing-count vs [] ws h = absurd (omega arith)
-closing-count [] (b ∷ bs) ws h = refl
-closing-count (v ∷ vs) (b ∷ bs) ws h =
-    let e : 4 * suc (length vs) ≡ suc (suc (suc (suc (4 * length vs)))) = omega arith in
-    rw e (closing-count vs bs ws (omega arith))
+-- the last of them is the count
+entry-last : (e : Edition) (v : Vertex) (post count : ℕ) (ws : List ℕ) → getD (entryOf e v post count ++ ws) (countPlace e + strokeWords e * 0) 0 ≡ count
+unfolding entryOf postWords strokeWords countPlace
+entry-last First v post count ws = refl
+entry-last Second v post count ws = refl
+
+module _ (e : Edition) where
+  entry-count : (ps : List ℕ) (vs : List Vertex) (bs : List (List Edge)) (ws : List ℕ) (i : ℕ) → length bs ≡ suc (length vs) → i < length vs
+      → getD (tableOf e ps vs bs ++ ws) (countPlace e + strokeWords e * i) 0 ≡ length (getD bs i [])
+  unfolding tableOf
+  entry-count ps [] bs ws i h l = absurd (omega arith)
+  entry-count ps (v ∷ vs) [] ws i h l = absurd (omega arith)
+  entry-count ps (v ∷ vs) (b ∷ bs) ws zero h l =
+      rw (append-assoc (entryOf e v (getD ps 0 0) (length b)) (tableOf e (drop 1 ps) vs bs) ws) (entry-last e v (getD ps 0 0) (length b) (tableOf e (drop 1 ps) vs bs ++ ws))
+  entry-count ps (v ∷ vs) (b ∷ bs) ws (suc i) h l =
+      rw (append-assoc (entryOf e v (getD ps 0 0) (length b)) (tableOf e (drop 1 ps) vs bs) ws)
+      (entry-past e v (getD ps 0 0) (length b) (tableOf e (drop 1 ps) vs bs ++ ws) i (countPlace e) ∙ entry-count (drop 1 ps) vs bs ws i (omega arith) (omega arith))
+
+  closing-count : (ps : List ℕ) (vs : List Vertex) (bs : List (List Edge)) (ws : List ℕ) → length bs ≡ suc (length vs)
+      → getD (tableOf e ps vs bs ++ ws) (0 + strokeWords e * length vs) 0 ≡ length (getD bs (length vs) [])
+  unfolding tableOf
+  closing-count ps vs [] ws h = absurd (omega arith)
+  closing-count ps [] (b ∷ bs) ws h = let z : 0 + strokeWords e * 0 ≡ 0 = omega arith in rw z refl
+  closing-count ps (v ∷ vs) (b ∷ bs) ws h =
+      rw (append-assoc (entryOf e v (getD ps 0 0) (length b)) (tableOf e (drop 1 ps) vs bs) ws)
+      (entry-past e v (getD ps 0 0) (length b) (tableOf e (drop 1 ps) vs bs ++ ws) (length vs) 0 ∙ closing-count (drop 1 ps) vs bs ws (omega arith))
 
 -- ---- in a store that begins with an outline
 
-module _ (g : ℕ) (vs : List Vertex) (rest : List ℕ) (h : Within g vs) where
+module _ (e : Edition) (g : ℕ) (ps : List ℕ) (vs : List Vertex) (rest : List ℕ) (h : Formed (Stroke e) g ps vs) where
   store : List ℕ
-  store = outlineBytes Stroke g vs ++ rest
+  store = outlineBytes (Stroke e) g ps vs ++ rest
 
   bodies : List (List Edge)
   bodies = bodiesOf g vs
 
   -- a word past the header
-  word-past : (j : ℕ) → wordAt store (5 + j) ≡ getD (tableOf vs bodies ++ (bodyWords (joined bodies) ++ wordsIn rest)) j 0
+  word-past : (j : ℕ) → wordAt store (5 + j) ≡ getD (tableOf e ps vs bodies ++ (bodyWords (joined bodies) ++ wordsIn rest)) j 0
   unfolding store bodies outlineWords partsWords headerOf styleWords edgesOf
   word-past j =
-      let e : 5 + j ≡ suc (suc (suc (suc (suc j)))) = omega arith in
-      header-word Stroke g vs rest (h, tt) (5 + j) ∙ rw (e, append-assoc (tableOf vs bodies) (bodyWords (joined bodies)) (wordsIn rest))
+      let q : 5 + j ≡ suc (suc (suc (suc (suc j)))) = omega arith in
+      header-word (Stroke e) g ps vs rest h (5 + j) ∙ rw (q, append-assoc (tableOf e ps vs bodies) (bodyWords (joined bodies)) (wordsIn rest))
 
   count-is : countIn store ≡ length vs
   unfolding store
-  count-is = count-back Stroke g vs rest (h, tt)
+  count-is = count-back (Stroke e) g ps vs rest h
+
+  edition-here : editionOf (editionIn store) ≡ e
+  unfolding store
+  edition-here = edition-is e g ps vs rest h
 
   edges-is : (i : ℕ) → i ≤ length vs → edgesIn store i ≡ length (getD bodies i [])
   unfolding edgesIn bodies
   edges-is i l = go (ltb i (countIn store)) refl
     where
       go : (x : Bool) → ltb i (countIn store) ≡ x → edgesIn store i ≡ length (getD bodies i [])
-      go true e =
-          let k : i < length vs = rw count-is at (ltb-true i (countIn store) e) in
-          let f : entryAt Stroke i + 3 ≡ headerWords Stroke + (3 + entryWords Stroke * i) = omega arith in
-          rw (e, edgesIn, f) (word-past (3 + entryWords Stroke * i) ∙ entry-count vs bodies _ i (bodies-count g vs) k)
-      go false e =
-          let k : i ≡ length vs = le-antisymm l (rw count-is at (ltb-false i (countIn store) e)) in
-          rw (e, edgesIn, count-is, k) (word-past (4 * length vs) ∙ closing-count vs bodies _ (bodies-count g vs))
+      go true q =
+          let k : i < length vs = rw count-is at (ltb-true i (countIn store) q) in
+          let f : entryAt (Stroke e) i + countPlace e ≡ 5 + (countPlace e + strokeWords e * i) = omega arith in
+          rw (q, edgesIn, edition-here, f) (word-past (countPlace e + strokeWords e * i) ∙ entry-count e ps vs bodies _ i (bodies-count g vs) k)
+      go false q =
+          let k : i ≡ length vs = le-antisymm l (rw count-is at (ltb-false i (countIn store) q)) in
+          let f : entryAt (Stroke e) (length vs) ≡ 5 + (0 + strokeWords e * length vs) = omega arith in
+          rw (q, edgesIn, edition-here, count-is, k, f) (word-past (0 + strokeWords e * length vs) ∙ closing-count e ps vs bodies _ (bodies-count g vs))
 
   before-is : (i : ℕ) → i ≤ length vs → edgesBefore store i ≡ length (joined (take i bodies))
   unfolding edgesBefore bodies joined
@@ -101,15 +130,16 @@ module _ (g : ℕ) (vs : List Vertex) (rest : List ℕ) (h : Within g vs) where
 
   module _ (i : ℕ) (l : i ≤ length vs) where
     front : List ℕ
-    front = headerOf Stroke g (length vs) (length (joined bodies)) ++ (tableOf vs bodies ++ bodyWords (joined (take i bodies)))
+    front = headerOf (Stroke e) g (length vs) (length (joined bodies)) ++ (tableOf e ps vs bodies ++ bodyWords (joined (take i bodies)))
 
-    front-long : length (bytesOf front) ≡ lengthOf Stroke (length vs) (edgesBefore store i)
+    front-long : length (bytesOf front) ≡ lengthOf (Stroke e) (length vs) (edgesBefore store i)
     unfolding front headerOf styleWords bodies
     front-long = omega (
       arith,
       bytes-length front,
-      length-append (tableOf vs bodies) (bodyWords (joined (take i bodies))),
-      stroke-length vs bodies (bodies-count g vs),
+      length-append (tableOf e ps vs bodies) (bodyWords (joined (take i bodies))),
+      stroke-length e ps vs bodies (bodies-count g vs),
+      entries-four e (length vs),
       numbers-length (joined (take i bodies)),
       before-is i l,
     )
@@ -120,21 +150,22 @@ module _ (g : ℕ) (vs : List Vertex) (rest : List ℕ) (h : Within g vs) where
     body-long : length (bytesOf (bodyWords (getD bodies i []))) ≡ edgeBytes * edgesIn store i
     body-long = omega (arith, bytes-length (bodyWords (getD bodies i [])), numbers-length (getD bodies i []), edges-is i l)
 
-    words-split : outlineWords Stroke g vs ≡ front ++ (bodyWords (getD bodies i []) ++ bodyWords (joined (drop (suc i) bodies)))
+    words-split : outlineWords (Stroke e) g ps vs ≡ front ++ (bodyWords (getD bodies i []) ++ bodyWords (joined (drop (suc i) bodies)))
     unfolding front bodies outlineWords partsWords headerOf styleWords edgesOf
     words-split =
-        let e : bodyWords (joined bodies) ≡ bodyWords (joined (take i bodies)) ++ (bodyWords (getD bodies i []) ++ bodyWords (joined (drop (suc i) bodies))) =
+        let q : bodyWords (joined bodies) ≡ bodyWords (joined (take i bodies)) ++ (bodyWords (getD bodies i []) ++ bodyWords (joined (drop (suc i) bodies))) =
         ap bodyWords (joined-split bodies i (omega (arith, bodies-count g vs))) ∙ simp body-append in
-        ap (λ (ws : List ℕ). headerOf Stroke g (length vs) (length (joined bodies)) ++ ws) (ap (λ (ws : List ℕ). tableOf vs bodies ++ ws) e ∙ sym (append-assoc (tableOf vs bodies) _ _))
+        ap (λ (ws : List ℕ). headerOf (Stroke e) g (length vs) (length (joined bodies)) ++ ws) (ap (λ (ws : List ℕ). tableOf e ps vs bodies ++ ws) q ∙ sym (append-assoc (tableOf e ps vs bodies) _ _))
 
     bytes-split : store ≡ bytesOf front ++ (bytesOf (bodyWords (getD bodies i [])) ++ back)
     unfolding store back bytesOf outlineBytes
     bytes-split = ap (λ (ws : List ℕ). spread fourBytes ws ++ rest) words-split ∙ simp (spread-append, append-assoc)
 
-    pub body-bytes : bodyBytesIn (outlineBytes Stroke g vs ++ rest) i ≡ bytesOf (bodyWords (getD (bodiesOf g vs) i []))
+    pub body-bytes : bodyBytesIn (outlineBytes (Stroke e) g ps vs ++ rest) i ≡ bytesOf (bodyWords (getD (bodiesOf g vs) i []))
     unfolding bodyBytesIn store bodies
     body-bytes =
-        let e : length (bytesOf front) ≡ lengthOf Stroke (countIn store) (edgesBefore store i) = omega (arith, front-long, count-is) in
+        let q : length (bytesOf front) ≡ lengthOf (Stroke e) (countIn store) (edgesBefore store i) = front-long ∙ ap (λ (n : ℕ). lengthOf (Stroke e) n (edgesBefore store i)) (sym count-is) in
         let b = bytesOf (bodyWords (getD bodies i [])) in
-        ap (λ (l : List ℕ). take (edgeBytes * edgesIn store i) l) (ap (drop (lengthOf Stroke (countIn store) (edgesBefore store i))) bytes-split ∙ drop-at (bytesOf front) (b ++ back) _ e)
+        ap (λ (d : Edition). take (edgeBytes * edgesIn store i) (drop (lengthOf (Stroke d) (countIn store) (edgesBefore store i)) store)) edition-here
+        ∙ ap (λ (l : List ℕ). take (edgeBytes * edgesIn store i) l) (ap (drop (lengthOf (Stroke e) (countIn store) (edgesBefore store i))) bytes-split ∙ drop-at (bytesOf front) (b ++ back) _ q)
         ∙ take-at b back (edgeBytes * edgesIn store i) body-long

@@ -12,12 +12,14 @@ use lib.Seq.{length-take-le}
 use borrow.Author.Tests.{eq-eqb, eqb-true, eqb-false}
 use Rattle.runs.specs.Runs.{spread}
 use Rattle.contacts.specs.declared.Vertex.{Vertex}
-use Rattle.outline.specs.Layout.{kindWord, frontBytes, lengthOf}
+use Rattle.outline.specs.Layout.{countPlace, strokeWords, strokeBytes, editionWord, kindWord, frontBytes, lengthOf}
+use Rattle.outline.specs.declared.Edition.{Edition}
+use Rattle.outline.specs.declared.Edition.the-variants.{First, Second}
 use Rattle.outline.specs.declared.Form.{Form}
 use Rattle.outline.specs.declared.Form.the-variants.{Stroke, Kerb}
 use Rattle.words.specs.Words.{fourBytes, bytesOf, wordsIn, wordAt}
 use Rattle.outline.specs.Outlines.{styleWords, headerOf, bodyWords, partsWords, tableFor, edgesFor, outlineWords, outlineBytes}
-use Rattle.outline.specs.Stores.{editionIn, kindIn, formIn, gradeIn, countIn, lengthIn, pathIn, dueIn, sameBytes, soundOf, firstDiffering, differingIn}
+use Rattle.outline.specs.Stores.{editionIn, kindIn, formIn, gradeIn, countIn, lengthIn, pathIn, postsIn, dueIn, sameBytes, soundOf, firstDiffering, differingIn}
 use Rattle.outline.specs.Theorems.{Bytes, DifferingInside}
 use Rattle.words.proofs.Bytes.{four-back}
 use Rattle.outline.proofs.ReadBack.{path-count-in, outline-length, few-edges}
@@ -144,29 +146,31 @@ module _ (a d p x y : List ℕ) (n m m′ : ℕ)
 
 -- a header's first four words
 firstOf : Form → ℕ → ℕ → List ℕ
-firstOf f g n = bytesOf (1 ∷ kindWord f ∷ g ∷ n ∷ [])
+firstOf f g n = bytesOf (editionWord f ∷ kindWord f ∷ g ∷ n ∷ [])
 
 first-long : (f : Form) (g n : ℕ) → length (firstOf f g n) ≡ 16
 unfolding firstOf bytesOf spread fourBytes
 first-long f g n = refl
 
-cut-words : (f : Form) (ws : List ℕ) (g n m j : ℕ) → ws ≡ 1 ∷ kindWord f ∷ g ∷ n ∷ m ∷ drop 5 ws
+cut-words : (f : Form) (ws : List ℕ) (g n m j : ℕ) → ws ≡ editionWord f ∷ kindWord f ∷ g ∷ n ∷ m ∷ drop 5 ws
     → bytesOf (take (suc (suc (suc (suc (suc j))))) ws) ≡ firstOf f g n ++ (fourBytes m ++ bytesOf (take j (drop 5 ws)))
 unfolding firstOf bytesOf spread fourBytes
 cut-words f ws g n m j e = ap (λ (l : List ℕ). bytesOf (take (suc (suc (suc (suc (suc j))))) l)) e
 
-due-words : (f : Form) (g : ℕ) (vs : List Vertex)
-    → outlineBytes f g vs ≡ firstOf f g (length vs) ++ (fourBytes (length (edgesFor f g vs)) ++ bytesOf (styleWords f ++ (tableFor f g vs ++ bodyWords (edgesFor f g vs))))
+due-words : (f : Form) (g : ℕ) (ps : List ℕ) (vs : List Vertex)
+    → outlineBytes f g ps vs ≡ firstOf f g (length vs) ++ (fourBytes (length (edgesFor f g vs)) ++ bytesOf (styleWords f ++ (tableFor f g ps vs ++ bodyWords (edgesFor f g vs))))
 unfolding firstOf outlineBytes outlineWords partsWords headerOf bytesOf spread fourBytes
-due-words f g vs = refl
+due-words f g ps vs = refl
 
 front-least : (f : Form) (n : ℕ) → 20 ≤ frontBytes f n
-front-least Stroke n = omega arith
+front-least (Stroke e) n = omega arith
 front-least (Kerb y) n = omega arith
 
 -- an outline's length in words: the first five, and j more
 words-long : (f : Form) (n m : ℕ) → (j : ℕ) × (lengthOf f n m ≡ 4 * suc (suc (suc (suc (suc j)))))
-words-long Stroke n m = (1 + 4 * n + 4 * m, omega arith)
+unfolding strokeBytes strokeWords countPlace
+words-long (Stroke First) n m = (1 + 4 * n + 4 * m, omega arith)
+words-long (Stroke Second) n m = (1 + 5 * n + 4 * m, omega arith)
 words-long (Kerb y) n m = (6 + 2 * n + 4 * m, omega arith)
 
 pub differing-inside : DifferingInside
@@ -178,15 +182,16 @@ differing-inside s h u =
     let n = countIn s in
     let m = wordAt s 4 in
     let vs = pathIn s in
+    let ps = postsIn s in
     let w = words-long f n m in
     let j = w .0 in
     let enough : suc (suc (suc (suc (suc j)))) ≤ length ws = words-count s (suc (suc (suc (suc (suc j))))) (omega (arith, w .1, h .long)) in
-    let head : ws ≡ 1 ∷ kindWord f ∷ g ∷ n ∷ m ∷ drop 5 ws = rw (h .edition, h .kind) at (five ws (omega arith)) in
+    let head : ws ≡ editionWord f ∷ kindWord f ∷ g ∷ n ∷ m ∷ drop 5 ws = rw (h .edition, h .kind) at (five ws (omega arith)) in
     let few : length vs ≡ n = path-count-in s in
     let ea : take (lengthIn s) s ≡ firstOf f g n ++ (fourBytes m ++ bytesOf (take j (drop 5 ws))) =
     ap (λ (i : ℕ). take i s) (w .1) ∙ words-again (suc (suc (suc (suc (suc j))))) s (h .bytes) (omega (arith, w .1, h .long)) ∙ cut-words f ws g n m j head in
-    let ed = rw few at (due-words f g vs) in
+    let ed = rw few at (due-words f g ps vs) in
     let la : length (take (lengthIn s) s) ≡ lengthIn s = length-take-le (lengthIn s) s (h .long) in
-    let ld : length (dueIn s) ≡ lengthOf f n (length (edgesFor f g vs)) = rw few at (outline-length f g vs) in
+    let ld : length (dueIn s) ≡ lengthOf f n (length (edgesFor f g vs)) = rw few at (outline-length f g ps vs) in
     let r = told (take (lengthIn s) s) (dueIn s) (firstOf f g n) _ _ (frontBytes f n) m (length (edgesFor f g vs)) ea ed (first-long f g n) (front-least f n) la ld (word-small s 4 (h .bytes)) (few-edges f g vs (omega (arith, h .count))) u in
     rw la at r

@@ -4,4 +4,5 @@ pub mod ReadBack
 pub mod Differing
 pub mod Parts
 pub mod OwnNumbers
+pub mod ShownPosts
 pub mod BodiesInBytes

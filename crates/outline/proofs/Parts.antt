@@ -1,12 +1,13 @@
 -- An outline's words part by part: numbers, a table entry by entry, bodies edge by edge. Assumes nothing.
 use mathlib.Core.Path.{_≡_, refl, sym, ap, _∙_}
 use mathlib.Core.List.{List, [], _∷_, _++_}
-use Prim.Native.Nat.{ℕ, _+_, _*_, _^_, _≤_, _<_}
+use Prim.Native.Nat.{ℕ, suc, _+_, _*_, _^_, _≤_, _<_}
 use native.Mathlib.Omega.{arith}
+use native.Mathlib.Nat.{add-zero}
 use native.Mathlib.Numerals.{add-one}
 use lib.IntN.{ℤ, pos}
 use lib.ListN.{length, getD, drop, drop-of-length-le}
-use lib.Seq.{drop-cons}
+use lib.Seq.{getD-drop, drop-drop, drop-cons}
 use mir.Syntax.{w64}
 use Rattle.whole.specs.Sizes.{Size}
 use Rattle.whole.proofs.Sizes.{size-fits}
@@ -19,19 +20,22 @@ use Rattle.turning.specs.Bounds.{Radius}
 use Rattle.turning.specs.declared.Edge.{Edge}
 use Rattle.contacts.specs.Bounds.{Inside}
 use Rattle.variable_stroke.specs.Chains.{emittedOf, nextOf, startOf, closeOf}
-use Rattle.paths.specs.Paths.{none, bodiesFrom, bodiesAt, joined}
+use Rattle.paths.specs.Paths.{none, bodiesFrom, bodiesAt, bodiesOf, joined, edgesOf}
 use Rattle.contacts.specs.declared.Vertex.{Vertex}
 use Rattle.variable_stroke.specs.declared.Walk.{Walk}
 use Rattle.paths.proofs.PathWalk.{edges-none, edges-start, edges-step, edges-end}
-use Rattle.outline.specs.Layout.{kindWord, entryWords, countWords, headerBytes, edgeBytes}
+use Rattle.outline.specs.Layout.{editionWord, kindWord, strokeBytes, strokeWords, countPlace, countWords, headerBytes, entryBytes, edgeBytes}
+use Rattle.outline.specs.declared.Edition.{Edition}
+use Rattle.outline.specs.declared.Edition.the-variants.{First, Second}
 use Rattle.outline.specs.declared.Form.{Form}
 use Rattle.outline.specs.declared.Form.the-variants.{Stroke, Kerb}
 use Rattle.kerb.specs.declared.Style.{Style}
-use Rattle.words.specs.Words.{wordOf, wordsOf, fourBytes}
-use Rattle.outline.specs.Outlines.{joinWord, closedWord, styleWords, headerOf, entryOf, tableOf, pointWords, bodyWords, tableFor}
+use Rattle.words.specs.Words.{wordOf, wordsOf, fourBytes, bytesOf}
+use Rattle.outline.specs.Outlines.{joinWord, closedWord, styleWords, headerOf, postWords, entryOf, tableOf, pointWords, bodyWords, partsWords, tableFor, outlineWords, outlineBytes}
 use Rattle.outline.specs.Parts.{tableFrom, wordsFrom}
 use Rattle.outline.proofs.ReadBack.{header-length, table-length, numbers-length}
 use Rattle.words.proofs.NumberRuns.{words-append, four-each}
+use Rattle.outline.proofs.FormLengths.{entries-four}
 
 -- ---- the header and an entry, word by word
 
@@ -41,23 +45,32 @@ word-end p = p .pos
 
 -- the words that the header of a form has after the edge count come last
 pub header-run : {S : Type 0} {f : S → ℕ → ℕ → S} {s₀ s₁ s₂ s₃ s₄ s₅ s₆ : S} {at a b c d e z g n m : ℕ} (o : Form)
-    → Runs f fourBytes s₀ at (1 ∷ []) s₁ a → Runs f fourBytes s₁ a (kindWord o ∷ []) s₂ b → Runs f fourBytes s₂ b (g ∷ []) s₃ c → Runs f fourBytes s₃ c (n ∷ []) s₄ d → Runs f fourBytes s₄ d (m ∷ []) s₅ e
+    → Runs f fourBytes s₀ at (editionWord o ∷ []) s₁ a → Runs f fourBytes s₁ a (kindWord o ∷ []) s₂ b → Runs f fourBytes s₂ b (g ∷ []) s₃ c → Runs f fourBytes s₃ c (n ∷ []) s₄ d → Runs f fourBytes s₄ d (m ∷ []) s₅ e
     → Runs f fourBytes s₅ e (styleWords o) s₆ z → Runs f fourBytes s₀ at (headerOf o g n m) s₆ z
 unfolding headerOf
 header-run o p q r s t u = runs-then p (runs-then q (runs-then r (runs-then s (runs-then t u))))
 
 -- of a stroke there are none
-pub stroke-style : {S : Type 0} {f : S → ℕ → ℕ → S} {s : S} {a : ℕ} → Runs f fourBytes s a (styleWords Stroke) s a
+pub stroke-style : {S : Type 0} {f : S → ℕ → ℕ → S} {s : S} {a : ℕ} (e : Edition) → Runs f fourBytes s a (styleWords (Stroke e)) s a
 unfolding styleWords
-stroke-style = runs-none
+stroke-style e = runs-none
 
-pub entry-room : {at : ℕ} (v : Vertex) (count : ℕ) → Room fourBytes at (entryOf v count) → at + 16 < 2 ^ 64
-unfolding entryOf spread fourBytes
-entry-room v count h = h .fits
+-- an entry has as many bytes as its edition says
+pub entry-bytes : (e : Edition) (v : Vertex) (post count : ℕ) → length (spread fourBytes (entryOf e v post count)) ≡ strokeBytes e
+unfolding entryOf postWords spread fourBytes strokeBytes strokeWords countPlace
+entry-bytes First v post count = refl
+entry-bytes Second v post count = refl
 
-pub room-entry : {at : ℕ} (v : Vertex) (count : ℕ) → at + 16 < 2 ^ 64 → Room fourBytes at (entryOf v count)
-unfolding entryOf spread fourBytes
-room-entry v count h = record { fits = h }
+pub post-bytes : (e : Edition) (post : ℕ) → length (spread fourBytes (postWords e post)) + 16 ≡ strokeBytes e
+unfolding postWords spread fourBytes strokeBytes strokeWords countPlace
+post-bytes First post = refl
+post-bytes Second post = refl
+
+pub entry-room : {at : ℕ} (e : Edition) (v : Vertex) (post count : ℕ) → Room fourBytes at (entryOf e v post count) → at + strokeBytes e < 2 ^ 64
+entry-room e v post count h = omega (arith, h .fits, entry-bytes e v post count)
+
+pub room-entry : {at : ℕ} (e : Edition) (v : Vertex) (post count : ℕ) → at + strokeBytes e < 2 ^ 64 → Room fourBytes at (entryOf e v post count)
+room-entry e v post count h = record { fits = omega (arith, h, entry-bytes e v post count) }
 
 -- a coordinate within the limits, as the code hands it on
 pub coordinate-fits : {z : ℤ} → Size (2 ^ 28) z → Size (2 ^ 31) (bits z)
@@ -69,14 +82,23 @@ coordinate-word h e = e ∙ ap wordOf (back (size-fits (2 ^ 28) w64 _ h tt))
 pub radius-size : {z : ℤ} → Radius z → Size (2 ^ 28) z
 radius-size h = record { size = h .high }
 
--- x, y and r are what the code has for the first three words
-pub entry-run : {S : Type 0} {f : S → ℕ → ℕ → S} {s₀ s₁ s₂ s₃ s₄ : S} {at a b c d x y r : ℕ} (v : Vertex) (count : ℕ) → Inside v
+-- x, y and r are what the code has for the first three words; then comes what the edition has for the post
+pub entry-run : {S : Type 0} {f : S → ℕ → ℕ → S} {s₀ s₁ s₂ s₃ s₄ s₅ : S} {at a b c d z x y r : ℕ} (e : Edition) (v : Vertex) (post count : ℕ) → Inside v
     → x ≡ wordOf (bits (v .x)) → y ≡ wordOf (bits (v .y)) → r ≡ wordOf (bits (v .radius))
-    → Runs f fourBytes s₀ at (x ∷ []) s₁ a → Runs f fourBytes s₁ a (y ∷ []) s₂ b → Runs f fourBytes s₂ b (r ∷ []) s₃ c → Runs f fourBytes s₃ c (count ∷ []) s₄ d
-    → Runs f fourBytes s₀ at (entryOf v count) s₄ d
+    → Runs f fourBytes s₀ at (x ∷ []) s₁ a → Runs f fourBytes s₁ a (y ∷ []) s₂ b → Runs f fourBytes s₂ b (r ∷ []) s₃ c → Runs f fourBytes s₃ c (postWords e post) s₄ d → Runs f fourBytes s₄ d (count ∷ []) s₅ z
+    → Runs f fourBytes s₀ at (entryOf e v post count) s₅ z
 unfolding entryOf
-entry-run v count h ex ey er p q s t =
-    runs-as (rw (← coordinate-word (h .x) ex, ← coordinate-word (h .y) ey, ← coordinate-word (radius-size (h .radius)) er)) (runs-then p (runs-then q (runs-then s t)))
+entry-run e v post count h ex ey er p q s t u =
+    runs-as (rw (← coordinate-word (h .x) ex, ← coordinate-word (h .y) ey, ← coordinate-word (radius-size (h .radius)) er)) (runs-then p (runs-then q (runs-then s (runs-then t u))))
+
+-- the post by its edition
+pub post-first : {S : Type 0} {f : S → ℕ → ℕ → S} {s : S} {a : ℕ} {e : Edition} (post : ℕ) → e ≡ First → Runs f fourBytes s a (postWords e post) s a
+unfolding postWords
+post-first post h = rw h runs-none
+
+pub post-second : {S : Type 0} {f : S → ℕ → ℕ → S} {s s′ : S} {a b : ℕ} {e : Edition} {post : ℕ} → e ≡ Second → Runs f fourBytes s a (post ∷ []) s′ b → Runs f fourBytes s a (postWords e post) s′ b
+unfolding postWords
+post-second h p = rw h p
 
 -- a style's three words, and a point's two
 pub style-run : {S : Type 0} {f : S → ℕ → ℕ → S} {s₀ s₁ s₂ s₃ : S} {at a b c r j k : ℕ} (y : Style) → Radius (y .radius)
@@ -124,33 +146,52 @@ module _ (t : Vector) (vs : List Vertex) where
 
 -- ---- the table, entry by entry
 
-pub table-none : (t : Vector) (vs : List Vertex) → length vs ≡ 0 → tableOf vs (bodiesAt t vs) ≡ 0 ∷ []
+pub table-none : (e : Edition) (t : Vector) (ps : List ℕ) (vs : List Vertex) → length vs ≡ 0 → tableOf e ps vs (bodiesAt t vs) ≡ 0 ∷ []
 unfolding tableOf bodiesAt
-table-none t [] h = refl
-table-none t (v ∷ vs) h = absurd (omega arith)
+table-none e t ps [] h = refl
+table-none e t ps (v ∷ vs) h = absurd (omega arith)
 
-pub table-start : (t : Vector) (vs : List Vertex) {a : Vertex} {w : Walk} → 0 < length vs → a ≡ getD vs 0 none → w ≡ startOf a → tableOf vs (bodiesAt t vs) ≡ entryOf a 0 ++ tableFrom t w (drop 1 vs)
+pub table-start : (e : Edition) (t : Vector) (ps : List ℕ) (vs : List Vertex) {a : Vertex} {w : Walk} {post : ℕ} → 0 < length vs → a ≡ getD vs 0 none → post ≡ getD ps 0 0 → w ≡ startOf a
+    → tableOf e ps vs (bodiesAt t vs) ≡ entryOf e a post 0 ++ tableFrom e t w (drop 1 ps) (drop 1 vs)
 unfolding tableOf bodiesAt tableFrom
-table-start t [] h e f = absurd (omega arith)
-table-start t (v ∷ vs) h e f = rw (f, e)
+table-start e t ps [] h i j f = absurd (omega arith)
+table-start e t ps (v ∷ vs) h i j f = rw (f, i, j)
 
-module _ (t : Vector) (vs : List Vertex) where
-  pub table-step : (k : ℕ) (w : Walk) {b : Vertex} {u : Walk} → k < length vs → b ≡ getD vs k none → u ≡ nextOf w b
-      → tableFrom t w (drop k vs) ≡ entryOf b (length (emittedOf t w b)) ++ tableFrom t u (drop (k + 1) vs)
+module _ (e : Edition) (t : Vector) (ps : List ℕ) (vs : List Vertex) where
+  pub table-step : (k : ℕ) (w : Walk) {b : Vertex} {u : Walk} {post : ℕ} → k < length vs → b ≡ getD vs k none → post ≡ getD ps k 0 → u ≡ nextOf w b
+      → tableFrom e t w (drop k ps) (drop k vs) ≡ entryOf e b post (length (emittedOf t w b)) ++ tableFrom e t u (drop (k + 1) ps) (drop (k + 1) vs)
   unfolding tableFrom tableOf bodiesFrom
-  table-step k w h e f = rw (f, add-one, e, drop-cons vs k none h)
+  table-step k w h i j f =
+      let q : getD (drop k ps) 0 0 ≡ getD ps k 0 = getD-drop k ps 0 0 ∙ ap (λ (n : ℕ). getD ps n 0) (add-zero k) in
+      let d : drop 1 (drop k ps) ≡ drop (suc k) ps = drop-drop 1 k ps ∙ ap (λ (n : ℕ). drop n ps) (add-one k) in
+      rw (f, add-one, i, j, drop-cons vs k none h, d, q)
 
-  pub table-end : (k : ℕ) (w : Walk) → length vs ≤ k → tableFrom t w (drop k vs) ≡ length (closeOf t w) ∷ []
+  pub table-end : (k : ℕ) (w : Walk) → length vs ≤ k → tableFrom e t w (drop k ps) (drop k vs) ≡ length (closeOf t w) ∷ []
   unfolding tableFrom tableOf bodiesFrom
   table-end k w h = rw (drop-of-length-le vs h)
+
+-- posts that are the same one by one give the same table
+same-posts : (e : Edition) (vs : List Vertex) (bs : List (List Edge)) (ps qs : List ℕ) → ((k : ℕ) → getD ps k 0 ≡ getD qs k 0) → tableOf e ps vs bs ≡ tableOf e qs vs bs
+unfolding tableOf
+same-posts e vs [] ps qs h = refl
+same-posts e [] (b ∷ bs) ps qs h = refl
+same-posts e (v ∷ vs) (b ∷ bs) ps qs h =
+    let r = same-posts e vs bs (drop 1 ps) (drop 1 qs) (λ k. getD-drop 1 ps k 0 ∙ h (1 + k) ∙ sym (getD-drop 1 qs k 0)) in
+    λ i. entryOf e v (h 0 i) (length b) ++ r i
+
+pub same-outline : (e : Edition) (g : ℕ) (vs : List Vertex) (ps qs : List ℕ) → ((k : ℕ) → getD ps k 0 ≡ getD qs k 0) → outlineBytes (Stroke e) g ps vs ≡ outlineBytes (Stroke e) g qs vs
+unfolding outlineBytes outlineWords partsWords
+same-outline e g vs ps qs h =
+    ap (λ (table : List ℕ). bytesOf (headerOf (Stroke e) g (length vs) (length (edgesOf g vs)) ++ (table ++ bodyWords (edgesOf g vs)))) (same-posts e vs (bodiesOf g vs) ps qs h)
 
 -- ---- how long the parts are, in bytes
 
 pub header-bytes : (f : Form) (g n m : ℕ) → length (spread fourBytes (headerOf f g n m)) ≡ headerBytes f
 header-bytes f g n m = omega (arith, four-each (headerOf f g n m), header-length f g n m)
 
-pub table-bytes : (f : Form) (g : ℕ) (vs : List Vertex) → length (spread fourBytes (tableFor f g vs)) ≡ 4 * (entryWords f * length vs + countWords f)
-table-bytes f g vs = omega (arith, four-each (tableFor f g vs), table-length f g vs)
+pub table-bytes : (f : Form) (g : ℕ) (ps : List ℕ) (vs : List Vertex) → length (spread fourBytes (tableFor f g ps vs)) ≡ entryBytes f * length vs + 4 * countWords f
+table-bytes (Stroke e) g ps vs = omega (arith, four-each (tableFor (Stroke e) g ps vs), table-length (Stroke e) g ps vs, entries-four e (length vs))
+table-bytes (Kerb y) g ps vs = omega (arith, four-each (tableFor (Kerb y) g ps vs), table-length (Kerb y) g ps vs)
 
 pub bodies-bytes : (es : List Edge) → length (spread fourBytes (bodyWords es)) ≡ edgeBytes * length es
 bodies-bytes es = omega (arith, four-each (bodyWords es), numbers-length es)

@@ -14,7 +14,7 @@ use Rattle.outline.specs.Stores.{pathIn}
 use Rattle.outline.proofs.ReadBack.{vertices-back}
 use Rattle.outline.specs.declared.Form.the-variants.{Stroke}
 use Rattle.replies.specs.Replies.{Reply, Row, firstRow, gradeRow, countRow, outsideRow, indexRow}
-use Rattle.heading.specs.StoreRows.{editionRow, kindRow, shortRow, styleRowIn, lengthRow, soundRow, storeRows}
+use Rattle.heading.specs.StoreRows.{editionRow, kindRow, unfitRow, styleRowIn, lengthRow, soundRow, storeRows}
 use Rattle.replies.specs.StyleRows.{styleRow}
 use Rattle.checking.specs.OtherKind.{otherKindRow}
 use Rattle.checking.proofs.OtherKinds.{kept-stroke}
@@ -26,13 +26,13 @@ use Rattle.locality.proofs.FirstSettled.{reach-is-first}
 
 pub kept-is-reached : KeptIsReached
 unfolding reachReply indexRow firstRow
-kept-is-reached g vs rest k w h =
-    first-skip (storeRows (outlineBytes Stroke g vs ++ rest)) _ _ (store-none Stroke g vs rest (w, tt))
-    ∙ first-skip (otherKindRow (outlineBytes Stroke g vs ++ rest) ∷ []) (indexRow (length (pathIn (outlineBytes Stroke g vs ++ rest))) k ∷ []) (0, reachedOf (pathIn (outlineBytes Stroke g vs ++ rest)) k) (kept-stroke g vs rest w, tt)
-    ∙ rw (vertices-back Stroke g vs rest (w, tt), lt-leb (length vs) k h, firstRow, vertices-back Stroke g vs rest (w, tt))
+kept-is-reached d g ps vs rest k w h =
+    first-skip (storeRows (outlineBytes (Stroke d) g ps vs ++ rest)) _ _ (store-none (Stroke d) g ps vs rest w)
+    ∙ first-skip (otherKindRow (outlineBytes (Stroke d) g ps vs ++ rest) ∷ []) (indexRow (length (pathIn (outlineBytes (Stroke d) g ps vs ++ rest))) k ∷ []) (0, reachedOf (pathIn (outlineBytes (Stroke d) g ps vs ++ rest)) k) (kept-stroke d g ps vs rest w, tt)
+    ∙ rw (vertices-back (Stroke d) g ps vs rest w, lt-leb (length vs) k h, firstRow, vertices-back (Stroke d) g ps vs rest w)
 
 pub number-is : (s : List ℕ) (k j : ℕ) → reachReply s k ≡ (0, j) → j ≡ reachedOf (pathIn s) k
-unfolding reachReply storeRows editionRow kindRow shortRow gradeRow styleRowIn styleRow countRow lengthRow outsideRow soundRow otherKindRow indexRow firstRow
+unfolding reachReply storeRows editionRow kindRow unfitRow gradeRow styleRowIn styleRow countRow lengthRow outsideRow soundRow otherKindRow indexRow firstRow
 number-is s k j e =
     let rows : List Row = storeRows s ++ (otherKindRow s ∷ indexRow (length (pathIn s)) k ∷ []) in
     let last : Reply = (0, reachedOf (pathIn s) k) in

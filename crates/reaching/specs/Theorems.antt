@@ -5,9 +5,10 @@ use mathlib.Core.List.{List, _++_}
 use Prim.Native.Nat.{ℕ, _+_, _≤_, _<_}
 use lib.ListN.{length}
 use Rattle.contacts.specs.declared.Vertex.{Vertex}
-use Rattle.paths.specs.Paths.{Within}
 use Rattle.locality.specs.Local.{settledTo}
 use Rattle.outline.specs.Outlines.{outlineBytes}
+use Rattle.outline.specs.Theorems.{Formed}
+use Rattle.outline.specs.declared.Edition.{Edition}
 use Rattle.outline.specs.Stores.{pathIn}
 use Rattle.outline.specs.declared.Form.the-variants.{Stroke}
 use Rattle.reaching.specs.Replies.{reachedOf, reachReply, Reaches}
@@ -19,8 +20,8 @@ OneReach = (s : List ℕ) (k : ℕ) (r q : Reached) → Reaches s k r → Reache
 
 -- Of an outline, whatever bytes stand after it, the call tells the reach of each vertex.
 abbrev pub KeptIsReached : Type 0
-KeptIsReached = (g : ℕ) (vs : List Vertex) (rest : List ℕ) (k : ℕ) → Within g vs → k < length vs
-    → reachReply (outlineBytes Stroke g vs ++ rest) k ≡ (0, reachedOf vs k)
+KeptIsReached = (e : Edition) (g : ℕ) (ps : List ℕ) (vs : List Vertex) (rest : List ℕ) (k : ℕ) → Formed (Stroke e) g ps vs → k < length vs
+    → reachReply (outlineBytes (Stroke e) g ps vs ++ rest) k ≡ (0, reachedOf vs k)
 
 -- The number j that the call gives is the first vertex at k + 2 or later that is reached by a drawn or broken step, as demand 3's is (`ReachIsFirst`,
 -- locality/specs/Local.antt); where it is the number of vertices, there is none.

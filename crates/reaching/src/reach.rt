@@ -38,7 +38,7 @@ fn reach_stroke(store: &[u8], path: &[i32], h: Header, index: usize) -> Reached
     let form = h.form;
     match form {
         Form::Kerb(_) => Reached::Refused(Refusal::OtherKind(KERB_KIND)),
-        Form::Stroke => reach_in(path, h.n, index),
+        Form::Stroke(_) => reach_in(path, h.n, index),
     }
 }
 

@@ -15,14 +15,14 @@ use Rattle.heading.specs.StoreRows.{storeRows}
 use Rattle.checking.proofs.KeptStore.{store-none}
 use Rattle.reading.specs.Reading.{readReply, readGrade, readForm, readOut, KeptIsRead}
 
-read-reply : (f : Form) (g : ℕ) (vs : List Vertex) (rest : List ℕ) (room : ℕ) → Formed f g vs → lentWidth f * length vs ≤ room → readReply (outlineBytes f g vs ++ rest) room ≡ (0, length vs)
+read-reply : (f : Form) (g : ℕ) (ps : List ℕ) (vs : List Vertex) (rest : List ℕ) (room : ℕ) → Formed f g ps vs → lentWidth f * length vs ≤ room → readReply (outlineBytes f g ps vs ++ rest) room ≡ (0, length vs)
 unfolding readReply
-read-reply f g vs rest room h k =
-    first-skip (storeRows (outlineBytes f g vs ++ rest)) _ _ (store-none f g vs rest h)
-    ∙ rw (form-back f g vs rest h, vertices-back f g vs rest h) (room-enough (lentWidth f * length vs) room (length vs) (0, length vs) k)
+read-reply f g ps vs rest room h k =
+    first-skip (storeRows (outlineBytes f g ps vs ++ rest)) _ _ (store-none f g ps vs rest h)
+    ∙ rw (form-back f g ps vs rest h, vertices-back f g ps vs rest h) (room-enough (lentWidth f * length vs) room (length vs) (0, length vs) k)
 
 pub kept-is-read : KeptIsRead
 unfolding readGrade readForm readOut written
-kept-is-read f g vs rest room h k =
-    let e = read-reply f g vs rest (length room) h k in
-    (e, rw (e, readGrade) (grade-back f g vs rest h), rw (e, readForm) (form-back f g vs rest h), rw (e, written, form-back f g vs rest h, vertices-back f g vs rest h))
+kept-is-read f g ps vs rest room h k =
+    let e = read-reply f g ps vs rest (length room) h k in
+    (e, rw (e, readGrade) (grade-back f g ps vs rest h), rw (e, readForm) (form-back f g ps vs rest h), rw (e, written, form-back f g ps vs rest h, vertices-back f g ps vs rest h))

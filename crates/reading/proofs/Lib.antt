@@ -1,4 +1,5 @@
 -- The crate's own laws.
 pub mod KeptRead
 pub mod OneReading
+pub mod PostsAnswers
 pub mod ReadAnswers

@@ -11,6 +11,8 @@ ghost use lib.ListN.{length};
 ghost use Rattle.reading.specs.Reading.{Reads};
 ghost use Rattle.checking.specs.StoreChecks.{Sound};
 
+pub mod posts;
+
 // What reading an outline came to: how many vertices, which grade and which form, or why not.
 pub enum Read {
     Vertices(usize, u32, Form),

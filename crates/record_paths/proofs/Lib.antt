@@ -1,5 +1,4 @@
 -- The crate's own laws.
 pub mod Counted
 pub mod WantedRecords
-pub mod GatheredAnswers
 pub mod WholeVertices

@@ -8,7 +8,7 @@ use native.Mathlib.Omega.{arith}
 use lib.Dec.{ltb}
 use lib.IntN.{ℤ}
 use lib.ListN.{length, take, drop, take-append-drop}
-use lib.Seq.{take-at, length-take-le}
+use lib.Seq.{take-all, take-at, length-take-le}
 use borrow.Author.Tests.{ltb-false}
 use Rattle.runs.specs.Runs.{spread, over, put}
 use Rattle.runs.proofs.Laws.{spread-append}
@@ -17,7 +17,9 @@ use Rattle.replies.specs.Replies.{firstRow, gradeRow, countRow}
 use Rattle.records.specs.Records.{recordNumbers}
 use Rattle.records.specs.declared.Record.{Record}
 use Rattle.records.proofs.Gathered.{records-three}
-use Rattle.record_paths.specs.RecordPaths.{wantedOf, Gathered}
+use Rattle.replies.specs.declared.path_rows.PathCheck.{PathCheck}
+use Rattle.replies.specs.declared.path_rows.PathCheck.the-variants.{Passed}
+use Rattle.record_paths.specs.RecordPaths.{wantedOf, Gathered, CountSays}
 
 -- all are wanted, and are at most 4,096, or none
 pub record Wants (n m : ℕ) : Type 0 where
@@ -56,3 +58,9 @@ gathered-path numbers vs {m} {g} {l} e room h =
     ∙ take-at (spread recordNumbers (take m vs)) (drop (length (spread recordNumbers (take m vs))) numbers) (3 * m) long
     ∙ sym (firsts m vs w) in
     record { long = records-three vs; first = rw (← e) stand }
+
+-- the path that is gathered, where the count passes
+pub gathered-is : (numbers : List ℤ) {n g m : ℕ} {c : PathCheck} (path : List ℤ) → CountSays n g c → c ≡ Passed m → Gathered numbers n g path → take (3 * m) numbers ≡ path
+gathered-is numbers {n} {g} {m} path s e h =
+    let p = s .passed m e in
+    ap (λ (k : ℕ). take (3 * k) numbers) (p .0 ∙ sym (p .1)) ∙ h .first ∙ ap (λ (k : ℕ). take (3 * k) path) (p .1) ∙ take-all (3 * n) path (omega (arith, h .long))

@@ -35,4 +35,4 @@ whole vs = ap not (eq-eqb (length (spread recordNumbers vs) % 3) 0 (omega (arith
 
 pub never-uneven : NeverUneven
 unfolding drawReply keepReply writeRows pathRows gradeRow countRow outsideRow emptyRow roomRow
-never-uneven vs g room = (none-one _ _ ((λ e _. true≢false (sym e ∙ whole vs)), ((λ _ e. omega (arith, e)), ((λ _ e. omega (arith, e)), ((λ _ e. omega (arith, e)), ((λ _ e. omega (arith, e)), ((λ _ e. omega (arith, e)), tt)))))) (λ e. omega (arith, e)), none-one _ _ ((λ e _. true≢false (sym e ∙ whole vs)), ((λ _ e. omega (arith, e)), ((λ _ e. omega (arith, e)), ((λ _ e. omega (arith, e)), ((λ _ e. omega (arith, e)), ((λ _ e. omega (arith, e)), tt)))))) (λ e. omega (arith, e)))
+never-uneven vs ps g room = (none-one _ _ ((λ e _. true≢false (sym e ∙ whole vs)), ((λ _ e. omega (arith, e)), ((λ _ e. omega (arith, e)), ((λ _ e. omega (arith, e)), ((λ _ e. omega (arith, e)), ((λ _ e. omega (arith, e)), tt)))))) (λ e. omega (arith, e)), none-one _ _ ((λ e _. true≢false (sym e ∙ whole vs)), ((λ _ e. omega (arith, e)), ((λ _ e. omega (arith, e)), ((λ _ e. omega (arith, e)), ((λ _ e. omega (arith, e)), ((λ _ e. omega (arith, e)), tt)))))) (λ e. omega (arith, e)))

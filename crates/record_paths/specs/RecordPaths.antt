@@ -12,10 +12,8 @@ use Rattle.replies.specs.Checks.{PathSays}
 use Rattle.replies.specs.declared.Refusal.{Refusal}
 use Rattle.replies.specs.declared.path_rows.PathCheck.{PathCheck}
 use Rattle.replies.specs.declared.path_rows.PathCheck.the-variants.{Passed, Refused}
-use Rattle.drawing.specs.Drawing.{drawReply, Draws}
-use Rattle.drawing.specs.declared.Drawn.{Drawn}
-use Rattle.keeping.specs.Keeping.{keepReply, Keeps}
-use Rattle.keeping.specs.declared.Kept.{Kept}
+use Rattle.drawing.specs.Drawing.{drawReply}
+use Rattle.keeping.specs.Keeping.{keepReply}
 
 -- How many of n records are read: none where 3 or 2 is the reply, else all.
 unfoldable pub wantedOf : ℕ → ℕ → ℕ
@@ -32,13 +30,6 @@ pub record CountSays (n grade : ℕ) (r : PathCheck) : Type 0 where
   pub wanted : (why : Refusal) → r ≡ Refused why → wantedOf n grade ≡ 0
   pub passed : (m : ℕ) → r ≡ Passed m → (m ≡ n) × (wantedOf n grade ≡ n) × (n ≤ 4096)
 
--- draw and keep, of whatever path is gathered
-pub record DrawsGathered (numbers : List ℤ) (n grade : ℕ) (out₀ : List ℤ) (r : Drawn) (out₁ : List ℤ) : Type 0 where
-  pub draws : (path : List ℤ) → Gathered numbers n grade path → Draws path grade out₀ r out₁
-
-pub record KeepsGathered (numbers : List ℤ) (n grade : ℕ) (out₀ : List ℕ) (r : Kept) (out₁ : List ℕ) : Type 0 where
-  pub keeps : (path : List ℤ) → Gathered numbers n grade path → Keeps path grade out₀ r out₁
-
 -- Records are whole vertices: 1 is the reply to none.
 abbrev pub NeverUneven : Type 0
-NeverUneven = (vs : List Record) (g room : ℕ) → (drawReply (spread recordNumbers vs) g room .0 ≡ 1 → ⊥) × (keepReply (spread recordNumbers vs) g room .0 ≡ 1 → ⊥)
+NeverUneven = (vs : List Record) (ps : List ℕ) (g room : ℕ) → (drawReply (spread recordNumbers vs) g room .0 ≡ 1 → ⊥) × (keepReply (spread recordNumbers vs) ps g room .0 ≡ 1 → ⊥)

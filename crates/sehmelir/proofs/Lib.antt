@@ -4,3 +4,4 @@ pub mod OneReply
 pub mod ChunkTold
 pub mod ReasonTold
 pub mod OwnArray
+pub mod RecordTold

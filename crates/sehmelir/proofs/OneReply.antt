@@ -2,7 +2,7 @@
 use mathlib.Core.Path.{_≡_, sym, _∙_}
 use Prim.Native.Nat.{ℕ}
 use Rattle.replies.specs.Replies.{Reply as Answer}
-use Rattle.sehmelir.specs.Boundary.{Replies, PathReplies, OneDrawReply, OneDrawKerbReply, OneKeepReply, OneKeepKerbReply, OneReadReply, OneReplaceReply, OneReachReply, OneTelling, OneImportReply, OneExportReply}
+use Rattle.sehmelir.specs.Boundary.{Replies, PathReplies, OneDrawReply, OneDrawKerbReply, OneKeepReply, OneKeepKerbReply, OneReadReply, OneNumbersReply, OneReplaceReply, OneReachReply, OneTelling, OneImportReply, OneExportReply}
 use Rattle.outline.specs.declared.Form.{Form}
 use Rattle.sehmelir.specs.declared.Path.{Path}
 use Rattle.sehmelir.specs.declared.Reply.{Reply}
@@ -36,6 +36,9 @@ one-path t g f r q a b = λ i. record {
 
 pub one-read-reply : OneReadReply
 one-read-reply s out r q o p a b = (one-path _ _ _ r q (a .replies) (b .replies), a .out ∙ sym (b .out))
+
+pub one-numbers-reply : OneNumbersReply
+one-numbers-reply s out r q o p a b = (one-reply _ _ r q (a .replies) (b .replies), a .out ∙ sym (b .out))
 
 pub one-replace-reply : OneReplaceReply
 one-replace-reply s k v r q o p a b = (one-reply _ _ r q (a .replies) (b .replies), a .store ∙ sym (b .store))

@@ -18,6 +18,7 @@ use Rattle.plane.proofs.Products.{bits}
 use Rattle.kerb.specs.declared.Style.{Style}
 use Rattle.words.specs.Words.{wordOf}
 use Rattle.outline.specs.Outlines.{joinWord, closedWord}
+use Rattle.outline.specs.declared.Edition.{Edition}
 use Rattle.outline.specs.declared.Form.{Form}
 use Rattle.outline.specs.declared.Form.the-variants.{Stroke, Kerb}
 use Rattle.outline.proofs.Parts.{coordinate-word, radius-size}
@@ -51,7 +52,7 @@ pub style-told : {r : FormNumbers} (y : Style) → Radius (y .radius) → r .kin
 unfolding radiusTold joinTold closedTold
 style-told y h ek er ej ec = record { kind = ek; radius = coordinate-word (radius-size h) er; join = ej; closed = ec }
 
-pub stroke-told : {r : FormNumbers} {f : Form} → f ≡ Stroke → r .kind ≡ 0 → r .radius ≡ 0 → r .join ≡ 0 → r .closed ≡ 0 → FormTold r f
+pub stroke-told : {r : FormNumbers} {f : Form} {e : Edition} → f ≡ Stroke e → r .kind ≡ 0 → r .radius ≡ 0 → r .join ≡ 0 → r .closed ≡ 0 → FormTold r f
 unfolding radiusTold joinTold closedTold
 stroke-told e ek er ej ec = rw e (record { kind = ek; radius = er; join = ej; closed = ec })
 

@@ -15,9 +15,10 @@ use Rattle.outline.specs.declared.Form.the-variants.{Stroke, Kerb}
 use Rattle.replies.specs.Replies.{Reply as Answer}
 use Rattle.drawing.specs.Drawing.{drawReply, drawOut}
 use Rattle.kerb_drawing.specs.KerbDrawing.{drawKerbReply, drawKerbOut}
-use Rattle.keeping.specs.Keeping.{keepReply, keepOut}
+use Rattle.keeping.specs.Keeping.{keepReply, keepOut, plainPosts}
 use Rattle.kerb_keeping.specs.KerbKeeping.{keepKerbReply, keepKerbOut}
 use Rattle.reading.specs.Reading.{readReply, readGrade, readForm, readOut}
+use Rattle.reading.specs.PostsReading.{postsReply, postsOut}
 use Rattle.editing.specs.Replacing.{replaceReply, replaceOut}
 use Rattle.reaching.specs.Replies.{reachReply}
 use Rattle.oldest.specs.Taken.{wholeIn, reasonOf}
@@ -44,10 +45,10 @@ pub record DrawKerbReplies (points : List ℤ) (grade radius join closed : ℕ) 
   pub replies : Replies r (drawKerbReply points grade radius join closed (length out₀)) 0
   pub out : out₁ ≡ drawKerbOut points grade radius join closed out₀
 
--- keep: reply, number and every lent byte afterwards
+-- keep: reply, number and every lent byte afterwards; every post is 0
 pub record KeepReplies (path : List ℤ) (grade : ℕ) (out₀ : List ℕ) (r : Reply) (out₁ : List ℕ) : Type 0 where
-  pub replies : Replies r (keepReply path grade (length out₀)) 0
-  pub out : out₁ ≡ keepOut path grade out₀
+  pub replies : Replies r (keepReply path (plainPosts path) grade (length out₀)) 0
+  pub out : out₁ ≡ keepOut path (plainPosts path) grade out₀
 
 -- Document 02, request 3, keeping a kerb: reply, number and every lent byte afterwards
 pub record KeepKerbReplies (points : List ℤ) (grade radius join closed : ℕ) (out₀ : List ℕ) (r : Reply) (out₁ : List ℕ) : Type 0 where
@@ -56,15 +57,15 @@ pub record KeepKerbReplies (points : List ℤ) (grade radius join closed : ℕ) 
 
 -- Document 02, request 3: a form in numbers, the kind and a kerb's radius, join and closed
 unfoldable pub radiusTold : Form → ℕ
-radiusTold Stroke = 0
+radiusTold (Stroke e) = 0
 radiusTold (Kerb y) = wordOf (y .radius)
 
 unfoldable pub joinTold : Form → ℕ
-joinTold Stroke = 0
+joinTold (Stroke e) = 0
 joinTold (Kerb y) = joinWord (y .join)
 
 unfoldable pub closedTold : Form → ℕ
-closedTold Stroke = 0
+closedTold (Stroke e) = 0
 closedTold (Kerb y) = closedWord (y .closed)
 
 pub record FormTold (r : FormNumbers) (f : Form) : Type 0 where
@@ -87,6 +88,11 @@ pub record PathReplies (r : Path) (told : Answer) (g : ℕ) (f : Form) : Type 0 
 pub record ReadReplies (store : List ℕ) (out₀ : List ℤ) (r : Path) (out₁ : List ℤ) : Type 0 where
   pub replies : PathReplies r (readReply store (length out₀)) (readGrade store (length out₀)) (readForm store (length out₀))
   pub out : out₁ ≡ readOut store out₀
+
+-- Document 02, request 11, reading the point numbers: reply, number and every lent number afterwards
+pub record NumbersReplies (store : List ℕ) (out₀ : List ℕ) (r : Reply) (out₁ : List ℕ) : Type 0 where
+  pub replies : Replies r (postsReply store (length out₀)) 0
+  pub out : out₁ ≡ postsOut store out₀
 
 -- replace: reply, number and every byte of the store afterwards
 pub record ReplaceReplies (store₀ : List ℕ) (index : ℕ) (v : Vertex) (r : Reply) (store₁ : List ℕ) : Type 0 where
@@ -130,6 +136,9 @@ OneKeepKerbReply = (points : List ℤ) (g r j c : ℕ) (out : List ℕ) (a b : R
 
 abbrev pub OneReadReply : Type 0
 OneReadReply = (s : List ℕ) (out : List ℤ) (r q : Path) (o p : List ℤ) → ReadReplies s out r o → ReadReplies s out q p → (r ≡ q) × (o ≡ p)
+
+abbrev pub OneNumbersReply : Type 0
+OneNumbersReply = (s out : List ℕ) (r q : Reply) (o p : List ℕ) → NumbersReplies s out r o → NumbersReplies s out q p → (r ≡ q) × (o ≡ p)
 
 abbrev pub OneReplaceReply : Type 0
 OneReplaceReply = (s : List ℕ) (k : ℕ) (v : Vertex) (r q : Reply) (o p : List ℕ) → ReplaceReplies s k v r o → ReplaceReplies s k v q p → (r ≡ q) × (o ≡ p)

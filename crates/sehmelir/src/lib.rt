@@ -5,6 +5,7 @@ use keeping::Kept;
 use kerb::Style;
 use oldest::Exported;
 use oldest::Imported;
+use outline::Edition;
 use outline::Form;
 use outline::layout::KERB_KIND;
 use outline::layout::STROKE_KIND;
@@ -12,6 +13,7 @@ use outline::layout::closed_word;
 use outline::layout::join_word;
 use reaching::Reached;
 use reading::Read;
+use reading::posts::PostsRead;
 use replies::Refusal;
 use replies::refusals::code;
 use words::wide_bits;
@@ -24,8 +26,9 @@ ghost use Rattle.replies.specs.Refusals.{refusalOf};
 ghost use Rattle.drawing.specs.Drawing.{replyOfDrawn};
 ghost use Rattle.keeping.specs.Keeping.{replyOfKept};
 ghost use Rattle.reading.specs.Reading.{replyOfRead, gradeOfRead, formOfRead};
+ghost use Rattle.reading.specs.PostsReading.{replyOfPosts};
 ghost use Rattle.editing.specs.Replacing.{replyOfReplaced};
-ghost use Rattle.sehmelir.specs.Boundary.{Replies, FormTold, PathReplies, DrawReplies, DrawKerbReplies, KeepReplies, KeepKerbReplies, ReadReplies, ReplaceReplies, ReachReplies, Tells, ImportReplies, ExportReplies};
+ghost use Rattle.sehmelir.specs.Boundary.{Replies, FormTold, PathReplies, DrawReplies, DrawKerbReplies, KeepReplies, KeepKerbReplies, ReadReplies, NumbersReplies, ReplaceReplies, ReachReplies, Tells, ImportReplies, ExportReplies};
 ghost use Rattle.reaching.specs.Replies.{replyOfReached};
 ghost use Rattle.oldest.specs.Taken.{coordinateOf, widthOf};
 ghost use Rattle.oldest.specs.Answers.{replyOfImported, replyOfExported};
@@ -128,7 +131,7 @@ fn form_numbers(form: Form) -> FormNumbers
     ensures { λ r. ⌜ FormTold r form ⌝ }
 {
     match form {
-        Form::Stroke => FormNumbers {
+        Form::Stroke(_) => FormNumbers {
             kind: STROKE_KIND,
             radius: 0,
             join: 0,
@@ -144,7 +147,7 @@ fn form_read(answer: Read) -> Form
 {
     match answer {
         Read::Vertices(_, _, form) => form,
-        Read::Refused(_) => Form::Stroke,
+        Read::Refused(_) => Form::Stroke(Edition::First),
     }
 }
 
@@ -177,6 +180,16 @@ fn path_read(answer: Read) -> Path
         radius: f.radius,
         join: f.join,
         closed: f.closed,
+    }
+}
+
+// What reading the posts came to, as a reply.
+fn posts_read(answer: PostsRead) -> Reply
+    ensures { λ p. ⌜ Replies p (replyOfPosts answer) 0 ⌝ }
+{
+    match answer {
+        PostsRead::Posts(n) => plain(0, n as u64),
+        PostsRead::Refused(r) => refusal(r),
     }
 }
 
@@ -297,6 +310,14 @@ pub extern "C" fn sehmelir_read(store: &[u8], out: &mut [i32]) -> Path
     ensures { λ p. ⌜ ReadReplies (now (store .entry)) (now (out .entry)) p (now (out .exit)) ⌝ }
 {
     path_read(calls::read(store, out))
+}
+
+// Reads the point numbers of a sound outline of kind 0 into lent numbers, one a vertex: zeros in edition 1.
+#[no_mangle]
+pub extern "C" fn sehmelir_numbers(store: &[u8], out: &mut [u32]) -> Reply
+    ensures { λ p. ⌜ NumbersReplies (now (store .entry)) (now (out .entry)) p (now (out .exit)) ⌝ }
+{
+    posts_read(calls::numbers(store, out))
 }
 
 // Replaces a vertex of a sound outline, in place.

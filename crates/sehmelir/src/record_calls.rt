@@ -1,13 +1,15 @@
 // The calls over vertex records, for C and Rust: numbers and slices only. A function over a slice of structs is proved by a walk of its MIR, by hand,
 // so these are thin: what they call is covered.
 use crate::Reply;
-use crate::drawn;
-use crate::kept;
-use record_paths::draw_gathered;
-use record_paths::keep_gathered;
+use crate::refusal;
+use crate::sehmelir_draw;
+use crate::sehmelir_keep;
+use record_paths::check_count;
+use record_paths::numbers_of;
 use record_paths::wanted;
 use records::Record;
 use records::gather;
+use replies::path_rows::PathCheck;
 ghost use mathlib.Core.Path.{_≡_};
 ghost use Prim.Native.Nat.{_*_, _≤_};
 ghost use lib.ListN.{length};
@@ -17,20 +19,34 @@ ghost use Rattle.record_paths.specs.RecordPaths.{wantedOf};
 ghost use Rattle.sehmelir.specs.Boundary.{DrawReplies, KeepReplies};
 ghost use Rattle.sehmelir.specs.RecordBoundary.{DrawGatheredReplies, KeepGatheredReplies};
 
-// What drawing a path that is gathered came to, as a reply.
+// Draws a path of n records, those that are wanted at the front of own numbers: grade and count first, then the call over numbers.
 fn draw_reply(own: &mut [i32], n: usize, grade: u32, out: &mut [i32]) -> Reply
     requires { ⌜ 3 * wantedOf n grade ≤ length (now own) ⌝ }
     ensures { λ p. ⌜ DrawGatheredReplies (now (own .entry)) n grade (now (out .entry)) p (now (out .exit)) ⌝ }
 {
-    drawn(draw_gathered(own, n, grade, out))
+    let checked = check_count(n, grade);
+    match checked {
+        PathCheck::Refused(r) => refusal(r),
+        PathCheck::Passed(m) => {
+            let end = numbers_of(m);
+            sehmelir_draw(&own[0..end], grade, out)
+        }
+    }
 }
 
-// What keeping a path that is gathered came to, as a reply.
+// Keeps a path of n records, those that are wanted at the front of own numbers: grade and count first, then the call over numbers.
 fn keep_reply(own: &mut [i32], n: usize, grade: u32, out: &mut [u8]) -> Reply
     requires { ⌜ 3 * wantedOf n grade ≤ length (now own) ⌝ }
     ensures { λ p. ⌜ KeepGatheredReplies (now (own .entry)) n grade (now (out .entry)) p (now (out .exit)) ⌝ }
 {
-    kept(keep_gathered(own, n, grade, out))
+    let checked = check_count(n, grade);
+    match checked {
+        PathCheck::Refused(r) => refusal(r),
+        PathCheck::Passed(m) => {
+            let end = numbers_of(m);
+            sehmelir_keep(&own[0..end], grade, out)
+        }
+    }
 }
 
 // The edges of a path of records, the m that are wanted by way of own numbers.

@@ -7,7 +7,7 @@ use Prim.Native.Nat.{ℕ, _+_, _-_, _*_, _%_, _≤_, _<_}
 use native.Mathlib.Omega.{arith}
 use borrow.Author.Tests.{leb-false}
 use lib.IntN.{ℤ, pos}
-use lib.ListN.{length, getD, take, drop, set, replicate, take-append-drop, length-append, length-replicate, length-set}
+use lib.ListN.{length, getD, take, drop, set, replicate, length-append, length-replicate, length-set}
 use lib.Seq.{getD-take, getD-drop, take-at, drop-at}
 use Rattle.runs.specs.Runs.{spread}
 use Rattle.locality.specs.Local.{reachOf}
@@ -16,12 +16,12 @@ use Rattle.contacts.specs.declared.Vertex.{Vertex}
 use Rattle.turning.specs.declared.Edge.{Edge}
 use Rattle.words.specs.Words.{bytesOf}
 use Rattle.outline.specs.Outlines.{bodyWords, outlineBytes}
-use Rattle.outline.specs.Stores.{formIn, gradeIn, lengthIn, pathIn, dueIn, bodiesIn, soundOf, bodyBytesIn}
+use Rattle.outline.specs.Stores.{editionIn, editionOf, formIn, gradeIn, lengthIn, pathIn, postsIn, dueIn, bodiesIn, soundOf, bodyBytesIn}
 use Rattle.replies.specs.Replies.{Reply, indexRow}
 use Rattle.heading.specs.StoreRows.{storeRows}
-use Rattle.keeping.specs.Keeping.{keepReply, keepOut}
+use Rattle.keeping.specs.Keeping.{keepReply, keepOut, plainPosts}
 use Rattle.editing.specs.Replacing.{replacedOf, replaceReply, replaceOut}
-use Rattle.theorems.specs.Theorems.{KeepRead, KeepKerbRead, ReplacedIsKept, BytesKept, NumberKeeps}
+use Rattle.theorems.specs.Theorems.{KeepRead, KeepPostsRead, PlainSuits, KeepKerbRead, ReplacedIsKept, BytesKept, NumberKeeps}
 use Rattle.outline.specs.Theorems.{BodyBytes}
 use Rattle.replies.proofs.Rows.{none-last}
 use Rattle.kerb_paths.specs.Points.{kerbPath}
@@ -31,11 +31,13 @@ use Rattle.kerb_keeping.specs.KerbKeeping.{kerbForm, kerbBytes}
 use Rattle.kerb_keeping.proofs.KerbKept.{kerb-pairs, kerb-formed, kerb-out}
 use Rattle.keeping.proofs.PathKept.{path-is-kept, keep-triples, keep-within, keep-out}
 use Rattle.reading.proofs.KeptRead.{kept-is-read}
-use Rattle.outline.proofs.ReadBack.{numbers-count}
+use Rattle.reading.proofs.PostsAnswers.{kept-posts-are-read}
+use Rattle.outline.proofs.ReadBack.{numbers-count, sound-is, sound-suits, plain-suits}
 use Rattle.editing.proofs.Changed.{replace-none, within-store, within-set, some-set, sound-store, stroke-store, stroke-replaced, out-is, replaced-is-sound, store-kept}
 use Rattle.heading.proofs.Shown.{path-back}
-use Rattle.comparing.proofs.FirstByte.{same-is}
 use Rattle.outline.proofs.BodiesInBytes.{body-bytes}
+use Rattle.outline.specs.declared.Edition.{Edition}
+use Rattle.outline.specs.declared.Edition.the-variants.{Second}
 use Rattle.outline.specs.declared.Form.{Form}
 use Rattle.outline.specs.declared.Form.the-variants.{Stroke}
 use Rattle.reaching.proofs.TheNumber.{number-is, lesser}
@@ -43,15 +45,15 @@ use Rattle.reaching.proofs.TheNumber.{number-is, lesser}
 -- ---- the bytes of a body in a sound store
 
 -- a sound store begins with what is due
-pub sound-begins : (s : List ℕ) → soundOf s ≡ true → s ≡ outlineBytes (formIn s) (gradeIn s) (pathIn s) ++ drop (lengthIn s) s
-unfolding soundOf dueIn
-sound-begins s e = sym (take-append-drop (lengthIn s) s) ∙ ap (λ (l : List ℕ). l ++ drop (lengthIn s) s) (same-is (take (lengthIn s) s) (dueIn s) e)
+pub sound-begins : (s : List ℕ) → soundOf s ≡ true → s ≡ outlineBytes (formIn s) (gradeIn s) (postsIn s) (pathIn s) ++ drop (lengthIn s) s
+unfolding dueIn
+sound-begins s e = sound-is s e
 
 pub body-bytes-in : BodyBytes
 unfolding bodiesIn
-body-bytes-in s i o w e l =
-    ap (λ (x : List ℕ). bodyBytesIn x i) (sound-begins s e ∙ ap (λ (f : Form). outlineBytes f (gradeIn s) (pathIn s) ++ drop (lengthIn s) s) o)
-    ∙ body-bytes (gradeIn s) (pathIn s) (drop (lengthIn s) s) w i l
+body-bytes-in s i d o w e l =
+    ap (λ (x : List ℕ). bodyBytesIn x i) (sound-begins s e ∙ ap (λ (f : Form). outlineBytes f (gradeIn s) (postsIn s) (pathIn s) ++ drop (lengthIn s) s) o)
+    ∙ body-bytes d (gradeIn s) (postsIn s) (pathIn s) (drop (lengthIn s) s) (w, sound-suits s d o e) i l
 
 module _ (s : List ℕ) (k : ℕ) (v : Vertex) (h : replaceReply s k v .0 ≡ 0) where
   -- where a body stays, its bytes do
@@ -60,9 +62,9 @@ module _ (s : List ℕ) (k : ℕ) (v : Vertex) (h : replaceReply s k v .0 ≡ 0)
       let r = replaced-is-sound s k v h in
       let w : Within (gradeIn (replaceOut s k v)) (pathIn (replaceOut s k v)) = rw (r .0, r .1) (within-set s k v h) in
       let n : i ≤ length (pathIn (replaceOut s k v)) = rw (r .1, length-set (pathIn s) k v) l in
-      body-bytes-in (replaceOut s k v) i (stroke-replaced s k v h) w (r .2) n
+      body-bytes-in (replaceOut s k v) i (editionOf (editionIn s)) (stroke-replaced s k v h) w (r .2) n
       ∙ ap (λ (es : List Edge). bytesOf (bodyWords es)) e
-      ∙ sym (body-bytes-in s i (stroke-store s k v h) (within-store s k v h) (sound-store s k v h) l)
+      ∙ sym (body-bytes-in s i (editionOf (editionIn s)) (stroke-store s k v h) (within-store s k v h) (sound-store s k v h) l)
 
 pub bytes-kept : BytesKept
 unfolding storeRows indexRow
@@ -90,12 +92,20 @@ numbers-back (x ∷ y ∷ r ∷ l) h = ap (λ (m : List ℤ). x ∷ y ∷ r ∷ 
 
 pub keep-read : KeepRead
 unfolding pathNumbers
-keep-read path g out room h l =
+keep-read path ps g out room u h l =
     let vs = pathOf path in
-    let b : pathNumbers vs ≡ path = numbers-back path (keep-triples path g (length out) h) in
+    let b : pathNumbers vs ≡ path = numbers-back path (keep-triples path ps g (length out) h) in
     let n : 3 * length vs ≤ length room = omega (arith, numbers-count vs, ap length b) in
-    let r = kept-is-read Stroke g vs (drop (length (outlineBytes Stroke g vs)) out) room (keep-within path g (length out) h, tt) n in
-    rw (keep-out path g out h) (r .0, r .1, r .2, rw b at (r .3))
+    let r = kept-is-read (Stroke Second) g ps vs (drop (length (outlineBytes (Stroke Second) g ps vs)) out) room (keep-within path ps g (length out) h, u) n in
+    rw (keep-out path ps g out h) (r .0, r .1, r .2, rw b at (r .3))
+
+pub keep-posts-read : KeepPostsRead
+keep-posts-read path ps g out room u h l =
+    rw (keep-out path ps g out h) (kept-posts-are-read Second g ps (pathOf path) (drop (length (outlineBytes (Stroke Second) g ps (pathOf path))) out) room (keep-within path ps g (length out) h, u) l)
+
+pub plain-posts-suit : PlainSuits
+unfolding plainPosts
+plain-posts-suit path = plain-suits (pathOf path)
 
 pairs-back : (r : ℤ) (l : List ℤ) → length l % 2 ≡ 0 → spread pointNumbers (kerbPath r l) ≡ l
 unfolding kerbPath pointNumbers spread
@@ -110,7 +120,7 @@ keep-kerb-read l g r j c out room h k =
     let f = kerbForm r j c in
     let b : spread pointNumbers vs ≡ l = pairs-back (pos r) l (kerb-pairs l g r j c (length out) h) in
     let n : 2 * length vs ≤ length room = omega (arith, point-count (pos r) l, k) in
-    let q = kept-is-read f g vs (drop (length (outlineBytes f g vs)) out) room (kerb-formed l g r j c (length out) h) n in
+    let q = kept-is-read f g [] vs (drop (length (outlineBytes f g [] vs)) out) room (kerb-formed l g r j c (length out) h) n in
     rw (kerb-out l g r j c out h) (q .0, q .1, q .2, rw b at (q .3))
 
 -- ---- a replaced store and keep
@@ -130,15 +140,17 @@ replaced-is-kept s k v room m z h e l =
     let zeros = replicate {A = ℕ} z 0 in
     let n : length new ≡ m = sym (replaced-long s k v h) in
     let p : pathOf path ≡ vs = path-back vs in
-    let b : outlineBytes Stroke g (pathOf path) ≡ new = rw p in
     let q : length path % 3 ≡ 0 = omega (arith, numbers-count vs) in
-    let kr : keepReply path g (length room) ≡ (0, m) =
-    path-is-kept path g (length room) q (rw p (within-set s k v h₀)) (rw p (some-set s k v h₀)) (omega (arith, ap length b)) ∙ ap (λ (x : ℕ). (0, x)) (ap length b ∙ n) in
-    let ko : keepOut path g room ≡ new ++ drop (length new) room = rw b at (keep-out path g room (ap (λ (r : Reply). r .0) kr)) in
+    let ps = postsIn s in
     let ro : replaceOut s k v ≡ new ++ (zeros ++ drop (length (new ++ zeros)) s) = rw (e, ← n) (out-is s k v h₀) in
     let t : length (new ++ zeros) ≡ m + z = omega (arith, length-append new zeros, length-replicate {A = ℕ} z 0) in (
-      kr,
-      ap (take m) ro ∙ take-at new _ m n ∙ sym (ap (take m) ko ∙ take-at new _ m n),
+      ap (take m) ro ∙ take-at new _ m n,
+      λ f.
+          let b : outlineBytes (Stroke Second) g ps (pathOf path) ≡ new = λ i. outlineBytes (sym f i) g ps (p i) in
+          let kr : keepReply path ps g (length room) ≡ (0, m) =
+          path-is-kept path ps g (length room) q (rw p (within-set s k v h₀)) (rw p (some-set s k v h₀)) (omega (arith, ap length b)) ∙ ap (λ (x : ℕ). (0, x)) (ap length b ∙ n) in
+          let ko : keepOut path ps g room ≡ new ++ drop (length new) room = rw b at (keep-out path ps g room (ap (λ (r : Reply). r .0) kr)) in
+          (kr, ap (take m) ro ∙ take-at new _ m n ∙ sym (ap (take m) ko ∙ take-at new _ m n)),
       ap (λ (x : List ℕ). take z (drop m x)) ro ∙ ap (take z) (drop-at new _ m n) ∙ take-at zeros _ z (length-replicate {A = ℕ} z 0),
       ap (drop (m + z)) (ro ∙ sym (append-assoc new zeros _)) ∙ drop-at (new ++ zeros) _ (m + z) t ∙ ap (λ (x : ℕ). drop x s) t,
     )

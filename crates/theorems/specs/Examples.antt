@@ -1,4 +1,4 @@
--- Document 01, "Marked examples, grade 1": one table, a row for each thing that it says of a path, and one claim over it.
+-- Document 01, "Marked examples, grade 1", in edition 1: one table, a row for each thing that it says of a path, and one claim over it.
 use mathlib.Core.Path.{_≡_}
 use mathlib.Core.List.{List, [], _∷_, _++_}
 use Prim.Native.Nat.{ℕ}
@@ -9,6 +9,7 @@ use Rattle.turning.specs.Edges.{edgeNumbers}
 use Rattle.turning.specs.declared.Edge.{Edge}
 use Rattle.paths.specs.Paths.{pathOf, bodiesOf, edgesOf}
 use Rattle.outline.specs.Outlines.{outlineWords, outlineBytes}
+use Rattle.outline.specs.declared.Edition.the-variants.{First, Second}
 use Rattle.outline.specs.declared.Form.the-variants.{Stroke}
 use Rattle.drawing.specs.Drawing.{drawReply}
 use Rattle.reading.specs.Reading.{readReply}
@@ -30,10 +31,14 @@ plain (n ∷ ns) = pos n ∷ plain ns
 -- order, and the reply of draw without room. Paths without edges, which draw and keep refuse (document 02, request 9), still read: the reply of reading
 -- the path's outline into room for three vertices.
 unfoldable pub bytes : ℕ → List ℤ → List ℤ
-bytes g l = pos (length (outlineBytes Stroke g (pathOf l))) ∷ []
+bytes g l = pos (length (outlineBytes (Stroke First) g [] (pathOf l))) ∷ []
 
 unfoldable pub words : ℕ → List ℤ → List ℤ
-words g l = plain (outlineWords Stroke g (pathOf l))
+words g l = plain (outlineWords (Stroke First) g [] (pathOf l))
+
+-- the same in edition 2, with posts
+unfoldable pub numbered : List ℕ → ℕ → List ℤ → List ℤ
+numbered ps g l = plain (outlineWords (Stroke Second) g ps (pathOf l))
 
 unfoldable pub lengths : List (List Edge) → List ℤ
 lengths [] = []
@@ -49,7 +54,7 @@ unfoldable pub reply : ℕ → List ℤ → List ℤ
 reply g l = pos (drawReply l g 0 .0) ∷ pos (drawReply l g 0 .1) ∷ []
 
 unfoldable pub reading : ℕ → List ℤ → List ℤ
-reading g l = pos (readReply (outlineBytes Stroke g (pathOf l)) 9 .0) ∷ pos (readReply (outlineBytes Stroke g (pathOf l)) 9 .1) ∷ []
+reading g l = pos (readReply (outlineBytes (Stroke First) g [] (pathOf l)) 9 .0) ∷ pos (readReply (outlineBytes (Stroke First) g [] (pathOf l)) 9 .1) ∷ []
 
 unfoldable pub examples : List Example
 examples =
@@ -79,8 +84,8 @@ examples =
 
 -- Further paths, from the places that are easy to get wrong: a full circle at a joint whose contacts are nearer than the radius; a step back that
 -- does not cover, since the larger radius does not exceed; a contact at a half; two full circles in one join; equality that breaks a chain; a
--- thin step between drawn ones; a covered circle, and one after it; and the smallest path whose inner points lie nearer than its radius (document
--- 02, request 6).
+-- thin step between drawn ones; a covered circle, and one after it; the smallest path whose inner points lie nearer than its radius (document
+-- 02, request 6); and a path with point numbers (request 11).
 unfoldable pub further : List Example
 further =
     record { asked = counts 1; path = pos 0 ∷ pos 0 ∷ pos 2 ∷ pos 10 ∷ pos 10 ∷ pos 2 ∷ pos 20 ∷ pos 20 ∷ pos 2 ∷ []; answer = pos 0 ∷ pos 5 ∷ pos 2 ∷ pos 3 ∷ [] }
@@ -92,6 +97,7 @@ further =
     ∷ record { asked = counts 1; path = pos 0 ∷ pos 0 ∷ pos 9 ∷ pos 20 ∷ pos 0 ∷ pos 9 ∷ pos 10 ∷ pos 0 ∷ pos 1 ∷ []; answer = pos 0 ∷ pos 6 ∷ pos 7 ∷ pos 1 ∷ [] }
     ∷ record { asked = counts 1; path = pos 0 ∷ pos 0 ∷ pos 9 ∷ pos 20 ∷ pos 0 ∷ pos 9 ∷ pos 10 ∷ pos 0 ∷ pos 1 ∷ pos 12 ∷ pos 0 ∷ pos 1 ∷ []; answer = pos 0 ∷ pos 6 ∷ pos 7 ∷ pos 2 ∷ pos 0 ∷ [] }
     ∷ record { asked = counts 1; path = pos 0 ∷ pos 0 ∷ pos 2 ∷ pos 0 ∷ minus 3 ∷ pos 0 ∷ []; answer = pos 0 ∷ pos 6 ∷ pos 0 ∷ [] }
+    ∷ record { asked = numbered (7 ∷ 4294967295 ∷ []) 1; path = pos 0 ∷ pos 0 ∷ pos 1 ∷ pos 20 ∷ pos 0 ∷ pos 1 ∷ []; answer = pos 2 ∷ pos 0 ∷ pos 1 ∷ pos 2 ∷ pos 0 ∷ pos 0 ∷ pos 0 ∷ pos 1 ∷ pos 7 ∷ pos 0 ∷ pos 20 ∷ pos 0 ∷ pos 1 ∷ pos 4294967295 ∷ pos 0 ∷ pos 0 ∷ [] }
     ∷ []
 
 unfoldable pub answersOf : List Example → List (List ℤ)

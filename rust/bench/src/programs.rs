@@ -81,7 +81,7 @@ impl Memory {
         let mut store = vec![0; bytes.max(needed(&input.moved_path()))];
         done(plain::calls::keep(&input.path, grade, &mut store));
         Memory {
-            edges: vec![0; (bytes - 24 - 16 * input.vertices()) / 4],
+            edges: vec![0; (bytes - sehmelir::outline_bytes(input.vertices(), 0)) / 4],
             kept: vec![0; bytes],
             store,
             path: vec![0; input.path.len()],

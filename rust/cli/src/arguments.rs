@@ -12,9 +12,10 @@ use std::path::PathBuf;
 const AFTER_HELP: &str = "\
 A path text has a vertex a line, three whole numbers: x y radius. Blank lines count for nothing,
 and neither does what follows a #. x and y are -268435456 to 268435456, a radius is 0 to 268435456,
-a path has at most 4096 vertices. A kerb has one radius for the whole line, and its text has two
-numbers a line: x y. Bytes that follow a sheet are passed over. A file of the oldest chunks has 12
-bytes a vertex: x, y and full width in millimetres, as little-endian 32-bit floats.
+a path has at most 4096 vertices. After a vertex that has a point number in its sheet, read prints
+that as a fourth. A kerb has one radius for the whole line, and its text has two numbers a line: x
+y. Bytes that follow a sheet are passed over. A file of the oldest chunks has 12 bytes a vertex: x,
+y and full width in millimetres, as little-endian 32-bit floats.
 
 Input comes from standard input, or from the file that is named. The result goes to standard
 output, or with -o to a file, which is written whole or not at all. A tile that a command of tile

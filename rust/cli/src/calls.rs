@@ -29,8 +29,7 @@ pub fn draw(path: &[i32], grade: u32) -> Result<Vec<[i32; 4]>, Failure> {
 
 /// The sheet of a path.
 pub fn keep(path: &[i32], grade: u32) -> Result<Vec<u8>, Failure> {
-    let vertices = path.len() / 3;
-    let bytes = 24 + 16 * (vertices + likely_edges(vertices, grade));
+    let bytes = likely_bytes(path.len() / 3, grade);
     progress::during("keeping", || {
         with_room(bytes, |room| sehmelir::keep(path, grade, room))
     })
@@ -79,6 +78,13 @@ pub fn read(sheet: &[u8]) -> Result<Read, Failure> {
         numbers,
         grade,
         form,
+    })
+}
+
+/// The point numbers of a sheet of a path.
+pub fn numbers(sheet: &[u8]) -> Result<Vec<u32>, Failure> {
+    progress::during("reading", || {
+        with_room(MOST_VERTICES, |room| sehmelir::numbers(sheet, room))
     })
 }
 
@@ -141,6 +147,11 @@ fn likely_edges(vertices: usize, grade: u32) -> usize {
     vertices.min(MOST_VERTICES) * (8 << grade.min(8))
 }
 
+/// So many bytes hold the sheets of most paths.
+fn likely_bytes(vertices: usize, grade: u32) -> usize {
+    sehmelir::outline_bytes(vertices, likely_edges(vertices, grade))
+}
+
 /// What a call writes, which it counts, in room enough for it.
 fn with_room<T: Clone + Default>(
     guess: usize,
@@ -160,7 +171,7 @@ fn with_room<T: Clone + Default>(
 
 #[cfg(test)]
 mod tests {
-    use super::{keep, keep_kerb, read, replace, with_room, Read};
+    use super::{keep, keep_kerb, numbers, read, replace, with_room, Read};
     use crate::failure::Failure;
     use sehmelir::{Form, Join, Refusal, Style};
 
@@ -191,6 +202,17 @@ mod tests {
             };
             assert_eq!(read(&replaced).unwrap(), expected);
         }
+    }
+
+    #[test]
+    fn a_replaced_vertex_keeps_its_number() {
+        let mut sheet = keep(&[0, 0, 5, 20, 0, 5], 8).unwrap();
+        assert_eq!(numbers(&sheet).unwrap(), [0, 0]);
+        for (place, number) in [(32, 411), (52, u32::MAX)] {
+            sheet[place..place + 4].copy_from_slice(&number.to_le_bytes());
+        }
+        let replaced = replace(sheet, 1, [20, 7, 90]).unwrap();
+        assert_eq!(numbers(&replaced).unwrap(), [411, u32::MAX]);
     }
 
     #[test]

@@ -1,33 +1,46 @@
-//! What differs between two sheets of one kind with as many vertices.
+//! What differs between two sheets of one kind and edition with as many vertices.
 
 use crate::failure::Failure;
 use crate::sheet::Sheet;
 use sehmelir::Form;
 use std::iter::zip;
 
-/// One mark a vertex and one a body, in the sheets' order: whether it differs.
+/// One mark a vertex, one a point number and one a body, in the sheets' order:
+/// whether it differs.
 pub struct Changes {
     pub vertices: Vec<bool>,
+    pub numbers: Vec<bool>,
     pub bodies: Vec<bool>,
 }
 
 impl Changes {
-    /// What differs between two sheets, if they are of one kind and have as many
-    /// vertices.
+    /// What differs between two sheets, if they are of one kind and of one edition
+    /// and have as many vertices.
     pub fn between(before: &Sheet, after: &Sheet) -> Result<Changes, Failure> {
         let kerbs = [before, after].map(|sheet| matches!(sheet.form(), Form::Kerb(_)));
         if kerbs[0] != kerbs[1] {
             return Err(Failure::UnlikeForms);
+        }
+        let (first, second) = (before.edition(), after.edition());
+        if first != second {
+            return Err(Failure::UnlikeEditions(first, second));
         }
         let (old, new) = (before.vertices(), after.vertices());
         if old.len() != new.len() {
             return Err(Failure::Unlike(old.len(), new.len()));
         }
         let vertices = zip(old, new).map(|(old, new)| old != new).collect();
+        let numbers = zip(before.numbers()?, after.numbers()?)
+            .map(|(old, new)| old != new)
+            .collect();
         let bodies = zip(before.bodies(), after.bodies())
             .map(|(old, new)| before.edge_bytes(old.clone()) != after.edge_bytes(new.clone()))
             .collect();
-        Ok(Changes { vertices, bodies })
+        Ok(Changes {
+            vertices,
+            numbers,
+            bodies,
+        })
     }
 }
 
@@ -62,6 +75,7 @@ mod tests {
         let after = sheet(&[[0, 9, 5], [20, 0, 5], [40, 0, 5], [60, 0, 5]], 1);
         let changes = Changes::between(&before, &after).unwrap();
         assert_eq!(changes.vertices, [true, false, false, false]);
+        assert_eq!(changes.numbers, [false; 4]);
         assert_eq!(changes.bodies, [false, true, true, false, false]);
     }
 

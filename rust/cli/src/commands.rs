@@ -12,7 +12,7 @@ use crate::failure::Failure;
 use crate::kerbs;
 use crate::migration;
 use crate::oldest;
-use crate::path_text::{numbers, pairs, rows};
+use crate::path_text::{numbered_rows, numbers, pairs, rows};
 use crate::picture;
 use crate::reasons;
 use crate::report;
@@ -56,15 +56,20 @@ fn keep(asked: Drawing) -> Result<(), Failure> {
 
 /// A sheet's path as text, or a kerb's points after a line that tells its style.
 fn read(asked: Reading) -> Result<(), Failure> {
-    let read = Source::named(asked.sheet).take(|sheet| calls::read(&sheet))?;
-    let text = match read.form {
-        Form::Stroke => rows(read.numbers.as_chunks::<3>().0),
+    let text = Source::named(asked.sheet).take(|sheet| as_text(&sheet))?;
+    asked.destination.write(&text)
+}
+
+/// What a sheet holds, as text.
+fn as_text(sheet: &[u8]) -> Result<Vec<u8>, Failure> {
+    let read = calls::read(sheet)?;
+    Ok(match read.form {
+        Form::Stroke => numbered_rows(read.numbers.as_chunks::<3>().0, &calls::numbers(sheet)?),
         Form::Kerb(style) => {
             let points = rows(read.numbers.as_chunks::<2>().0);
             [kerbs::comment(style).into_bytes(), points].concat()
         }
-    };
-    asked.destination.write(&text)
+    })
 }
 
 /// A kerb as a sheet.

@@ -27,6 +27,8 @@ pub enum Failure {
     Unlike(usize, usize),
     /// One of the sheets to be compared is of a path and one of a kerb.
     UnlikeForms,
+    /// The sheets to be compared are of this edition and of this other.
+    UnlikeEditions(u32, u32),
     /// The tile has no room for a sheet of so many bytes.
     NoTileRoom(usize),
     /// The file to be made is there already.
@@ -129,6 +131,12 @@ impl Display for Failure {
                 formatter,
                 "refused: one sheet is of a path and the other of a kerb; \
                  only sheets of one kind are held against each other"
+            ),
+            Failure::UnlikeEditions(first, second) => write!(
+                formatter,
+                "refused: the first sheet is of edition {first} and the second of edition {second}; \
+                 only sheets of one edition are held against each other \
+                 (read and keep again make edition 2 of a sheet of edition 1)"
             ),
             Failure::NoTileRoom(bytes) => write!(
                 formatter,
@@ -249,8 +257,8 @@ fn meaning(refusal: &Refusal) -> String {
         Refusal::NoRoom(needed) => {
             format!("the result is longer than the room lent; it needs {needed}")
         }
-        Refusal::NotOutline => "this is no sheet: it has under 24 bytes, or its edition is not 1, \
-                                or it is shorter than its header says"
+        Refusal::NotOutline => "this is no sheet: it has under 24 bytes, or its edition is not 1 or 2, \
+                                of a kerb not 1, or it is shorter than its header says"
             .to_string(),
         Refusal::Kind(kind) => format!("the sheet's kind is neither 0 nor 1; it is {kind}"),
         Refusal::NotSound(byte) => format!(

@@ -52,6 +52,22 @@ pub fn rows<const WIDTH: usize>(rows: &[[i32; WIDTH]]) -> Vec<u8> {
     text
 }
 
+/// A path's vertices, one a line, and after each the point number that it has, if
+/// that is not 0.
+pub fn numbered_rows(path: &[[i32; 3]], numbers: &[u32]) -> Vec<u8> {
+    let mut text = Vec::new();
+    for (vertex, &number) in path.iter().zip(numbers) {
+        text.extend(rows(&[*vertex]));
+        if number != 0 {
+            text.pop();
+            text.push(b' ');
+            push_digits(&mut text, number);
+            text.push(b'\n');
+        }
+    }
+    text
+}
+
 /// A number in decimal digits. The standard library's own way takes three times
 /// as long, and a boundary may have millions of them.
 fn push_number(text: &mut Vec<u8>, number: i32) {
@@ -74,7 +90,7 @@ pub fn push_digits(text: &mut Vec<u8>, mut rest: u32) {
 
 #[cfg(test)]
 mod tests {
-    use super::{numbers, pairs, rows};
+    use super::{numbered_rows, numbers, pairs, rows};
     use crate::failure::Failure;
 
     #[test]
@@ -84,6 +100,13 @@ mod tests {
         assert_eq!(read, [0, 0, 5, -3, 4, 7, 1, 2, 3]);
         let (vertices, _) = read.as_chunks::<3>();
         assert_eq!(rows(vertices), b"0 0 5\n-3 4 7\n1 2 3\n");
+    }
+
+    #[test]
+    fn a_point_number_is_told_where_there_is_one() {
+        let path = [[0, 0, 5], [-3, 4, 7], [1, 2, 3]];
+        let text = numbered_rows(&path, &[411, 0, 4_294_967_295]);
+        assert_eq!(text, b"0 0 5 411\n-3 4 7\n1 2 3 4294967295\n");
     }
 
     #[test]

@@ -15,11 +15,12 @@ pub fn of(before: &Sheet, after: &Sheet) -> Result<String, Failure> {
         return Ok(of_kerbs(before, after, [old, new], &changes));
     }
     let facts = format!(
-        "{}\n{}\nedges: {} before, {} after\n",
+        "{}\n{}\nedges: {} before, {} after\n{}",
         vertices(&changes.vertices),
         bodies(&changes.bodies),
         number(before.edge_count()),
         number(after.edge_count()),
+        numbers(&changes.numbers),
     );
     if before.grade() != after.grade() {
         let grades = format!("{} before and {} after", before.grade(), after.grade());
@@ -80,6 +81,16 @@ fn vertices(marks: &[bool]) -> String {
     )
 }
 
+/// How many point numbers differ and whose, a line, if any do.
+fn numbers(marks: &[bool]) -> String {
+    let differing = count(marks, true);
+    if differing == 0 {
+        return String::new();
+    }
+    let told = counted(differing, "differs", "differ");
+    format!("point numbers: {told}{}\n", listed(places(marks, true)))
+}
+
 /// How many bodies there are, which hold other edges and which the same.
 fn bodies(marks: &[bool]) -> String {
     let total = number(marks.len());
@@ -111,7 +122,7 @@ fn listed(places: Vec<String>) -> String {
 
 #[cfg(test)]
 mod tests {
-    use super::{bodies, kerb_bodies, vertices};
+    use super::{bodies, kerb_bodies, numbers, vertices};
 
     #[test]
     fn a_kerbs_bodies_are_named() {
@@ -131,6 +142,15 @@ mod tests {
         assert_eq!(
             bodies(&[false]),
             "bodies: 1, the closing one among them; 0 hold other edges; 1 holds the same: closing"
+        );
+    }
+
+    #[test]
+    fn point_numbers_that_differ_are_told() {
+        assert_eq!(numbers(&[false; 3]), "");
+        assert_eq!(
+            numbers(&[false, true, true, false, true]),
+            "point numbers: 3 differ: 1 to 2, 4\n"
         );
     }
 

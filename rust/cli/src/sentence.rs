@@ -18,9 +18,13 @@ pub enum Sentence {
 
 /// What follows from what differs between two sheets of one grade.
 pub fn of(after: &Sheet, changes: &Changes) -> Result<Sentence, Failure> {
-    let Changes { vertices, bodies } = changes;
+    let Changes {
+        vertices,
+        numbers,
+        bodies,
+    } = changes;
     let Some(moved) = first_marked(vertices, 0) else {
-        return Ok(unchanged(bodies));
+        return Ok(unchanged(numbers, bodies));
     };
     if count(vertices, true) > 1 {
         let told = "more than one vertex differs: \
@@ -32,19 +36,23 @@ pub fn of(after: &Sheet, changes: &Changes) -> Result<Sentence, Failure> {
     if let Some(body) = broken(bodies, moved, kept) {
         return Ok(Sentence::Fault(fault(body, vertices.len())));
     }
-    let reached = reached(moved, settled, vertices.len());
+    let reached = reached(moved, numbers.contains(&true), settled, vertices.len());
     let promise = promise(moved, kept);
     Ok(Sentence::Holds(format!("{reached}\n{promise}")))
 }
 
-/// What follows where no vertex differs.
-fn unchanged(bodies: &[bool]) -> Sentence {
+/// What follows where no vertex differs, but for its point number.
+fn unchanged(numbers: &[bool], bodies: &[bool]) -> Sentence {
     if bodies.contains(&true) {
         let told = "FAULT: no vertex differs, and yet a body holds other edges: \
                     this must not be, please report both sheets";
         return Sentence::Fault(told.to_string());
     }
-    Sentence::Holds("nothing differs: the two sheets are the same".to_string())
+    let told = match numbers.contains(&true) {
+        true => "point numbers alone differ, and they draw nothing: every body is the same",
+        false => "nothing differs: the two sheets are the same",
+    };
+    Sentence::Holds(told.to_string())
 }
 
 /// A body that cannot change and did: one before the moved vertex's, or one
@@ -63,9 +71,15 @@ fn fault(body: usize, vertices: usize) -> String {
     format!("FAULT: {which} cannot change, and did: this must not be, please report both sheets")
 }
 
-/// How far the moved vertex reaches: to the vertex `settled`, if there is one.
-fn reached(moved: usize, settled: usize, vertices: usize) -> String {
-    let alone = format!("vertex {} alone differs, and", number(moved));
+/// How far the moved vertex reaches, whether or not point numbers differ too: to
+/// the vertex `settled`, if there is one.
+fn reached(moved: usize, numbered: bool, settled: usize, vertices: usize) -> String {
+    let apart = if numbered {
+        ", point numbers apart"
+    } else {
+        ""
+    };
+    let alone = format!("vertex {} alone differs{apart}, and", number(moved));
     let from = number(moved + 2);
     if settled >= vertices {
         return format!("{alone} no vertex from {from} on is reached by a drawn or broken step:");
@@ -133,6 +147,6 @@ mod tests {
         assert_eq!(broken(&bodies, 1, None), None);
         assert!(fault(3, 3).starts_with("FAULT: the closing body"));
         assert!(fault(1, 3).starts_with("FAULT: body 1 "));
-        assert!(matches!(unchanged(&bodies), Sentence::Fault(_)));
+        assert!(matches!(unchanged(&[], &bodies), Sentence::Fault(_)));
     }
 }

@@ -8,7 +8,7 @@ use std::ops::Range;
 /// Words of an edge.
 const ROW: usize = 4;
 
-/// Where words stand in a sheet of a kind.
+/// Where words stand in a sheet of a kind and edition.
 #[derive(Debug, PartialEq)]
 struct Layout {
     /// Words before the vertices.
@@ -20,11 +20,16 @@ struct Layout {
 }
 
 impl Layout {
-    /// Document 01's, and a kerb's, of document 02.
+    /// Document 01's, edition 2 with a point number in each entry, and a kerb's,
+    /// both of document 02.
     const STROKE: Layout = Layout {
         header: 5,
         entry: 4,
         counts: 1,
+    };
+    const NUMBERED: Layout = Layout {
+        entry: 5,
+        ..Layout::STROKE
     };
     const KERB: Layout = Layout {
         header: 8,
@@ -32,11 +37,13 @@ impl Layout {
         counts: 3,
     };
 
-    fn of(form: Form) -> Layout {
-        match form {
-            Form::Stroke => Layout::STROKE,
-            Form::Kerb(_) => Layout::KERB,
-        }
+    /// That of these words, if there are so many: edition, then kind.
+    fn of(bytes: &[u8]) -> Option<Layout> {
+        Some(match (word(bytes, 0)?, word(bytes, 1)?) {
+            (_, 1) => Layout::KERB,
+            (2, _) => Layout::NUMBERED,
+            _ => Layout::STROKE,
+        })
     }
 
     /// Words before the edges of so many vertices.
@@ -48,6 +55,7 @@ impl Layout {
 /// A sheet that the library found sound.
 pub struct Sheet {
     bytes: Vec<u8>,
+    layout: Layout,
     grade: u32,
     form: Form,
     vertices: Vec<[i32; 3]>,
@@ -69,9 +77,11 @@ impl Sheet {
                 points.map(|&[x, y]| [x, y, 0]).collect()
             }
         };
-        let bodies = bodies(&bytes, form, vertices.len());
+        let layout = Layout::of(&bytes).unwrap_or(Layout::STROKE);
+        let bodies = bodies(&bytes, form, &layout, vertices.len());
         Ok(Sheet {
             bytes,
+            layout,
             grade,
             form,
             vertices,
@@ -82,6 +92,19 @@ impl Sheet {
     /// The bytes, and what may stand after the sheet.
     pub fn bytes(&self) -> &[u8] {
         &self.bytes
+    }
+
+    /// Its edition, 1 or 2.
+    pub fn edition(&self) -> u32 {
+        word(&self.bytes, 0).unwrap_or(0)
+    }
+
+    /// The point number of each vertex; 0 of a kerb's, which has none.
+    pub fn numbers(&self) -> Result<Vec<u32>, Failure> {
+        match self.form {
+            Form::Stroke => calls::numbers(&self.bytes),
+            Form::Kerb(_) => Ok(vec![0; self.vertices.len()]),
+        }
     }
 
     /// How finely arcs are drawn.
@@ -123,14 +146,13 @@ impl Sheet {
 
     /// The bytes of these edges.
     pub fn edge_bytes(&self, numbers: Range<usize>) -> &[u8] {
-        let first = 4 * Layout::of(self.form).front(self.vertices.len());
+        let first = 4 * self.layout.front(self.vertices.len());
         &self.bytes[first + 4 * ROW * numbers.start..first + 4 * ROW * numbers.end]
     }
 }
 
 /// The bodies of a sound sheet of so many vertices.
-fn bodies(bytes: &[u8], form: Form, vertices: usize) -> Vec<Range<usize>> {
-    let layout = Layout::of(form);
+fn bodies(bytes: &[u8], form: Form, layout: &Layout, vertices: usize) -> Vec<Range<usize>> {
     let front = layout.front(vertices);
     let last = front - layout.counts..front;
     let places: Vec<usize> = match form {
@@ -163,12 +185,8 @@ pub struct Header {
 impl Header {
     /// The header, if there are bytes enough for one.
     pub fn of(bytes: &[u8]) -> Option<Header> {
-        let layout = match word(bytes, 1)? {
-            1 => Layout::KERB,
-            _ => Layout::STROKE,
-        };
         Some(Header {
-            layout,
+            layout: Layout::of(bytes)?,
             grade: word(bytes, 2)?,
             vertices: word(bytes, 3)? as usize,
             edges: word(bytes, 4)? as usize,
@@ -204,6 +222,26 @@ mod tests {
         assert_eq!(sheet.bodies(), [0..0, 0..8, 8..8, 8..16]);
         assert_eq!(sheet.edge_count(), 16);
         assert_eq!(sheet.edges(0..2).last(), Some([6, 8, -3, 10]));
+        assert_eq!((sheet.edition(), sheet.numbers().unwrap()), (2, vec![0; 3]));
+    }
+
+    /// The same path as it was kept once: entries without point numbers.
+    #[test]
+    fn a_sheet_of_edition_1_is_taken_apart() {
+        let path = [[0, 0, 10], [3, 0, 2], [6, 0, 10]];
+        let now = calls::keep(path.as_flattened(), 1).unwrap();
+        let mut once = [&[1], &now[1..20]].concat();
+        for entry in now[20..80].chunks_exact(20) {
+            once.extend([&entry[..12], &entry[16..]].concat());
+        }
+        once.extend(&now[80..]);
+        let header = Header::of(&once).unwrap();
+        assert_eq!((header.grade, header.length()), (1, once.len()));
+        let sheet = Sheet::sound(once).unwrap();
+        assert_eq!(sheet.vertices(), path);
+        assert_eq!(sheet.bodies(), [0..0, 0..8, 8..8, 8..16]);
+        assert_eq!(sheet.edges(0..2).last(), Some([6, 8, -3, 10]));
+        assert_eq!((sheet.edition(), sheet.numbers().unwrap()), (1, vec![0; 3]));
     }
 
     #[test]

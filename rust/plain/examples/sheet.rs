@@ -6,7 +6,9 @@
 //! sheet explain [EDGE]
 //! sheet chunk-make ENTRIES BYTES | sheet chunk-add KEY OUTLINE | sheet chunk-find KEY | sheet chunk-remove KEY | sheet chunk-compact
 
-use plain::calls::{draw, draw_kerb, keep, keep_kerb, read, replace, Reply};
+use plain::calls::{
+    draw, draw_kerb, keep_kerb, keep_records, numbers, read, replace, Record, Reply,
+};
 use plain::chunks;
 use plain::kerbs::StyleWords;
 use plain::oldest::{export, import};
@@ -14,19 +16,39 @@ use plain::reasons;
 use std::io::{self, Read, Write};
 use std::process::ExitCode;
 
-/// The numbers of a path text. A `#` begins a comment.
-fn path(text: &[u8]) -> Vec<i32> {
+/// The numbers of each line of a text that has any. A `#` begins a comment.
+fn lines(text: &[u8]) -> Vec<Vec<i64>> {
     let text = std::str::from_utf8(text).expect("a path text is plain text");
-    let content = |line: &str| line.split('#').next().unwrap_or("").to_string();
     let number = |word: &str| word.parse().expect("a path text has whole numbers");
-    text.lines()
-        .flat_map(|line| {
-            content(line)
-                .split_whitespace()
-                .map(number)
-                .collect::<Vec<i32>>()
-        })
-        .collect()
+    let line = |line: &str| {
+        let content = line.split('#').next().unwrap_or("");
+        content.split_whitespace().map(number).collect()
+    };
+    let lines = text.lines().map(line);
+    lines.filter(|line: &Vec<i64>| !line.is_empty()).collect()
+}
+
+/// The numbers of a kerb's text.
+fn points(text: &[u8]) -> Vec<i32> {
+    lines(text).concat().iter().map(|&n| n as i32).collect()
+}
+
+/// The vertices of a path text: x, y, radius and, if there is a fourth number,
+/// the point number.
+fn records(text: &[u8]) -> Vec<Record> {
+    let record = |line: &Vec<i64>| Record {
+        x: line[0] as i32,
+        y: line[1] as i32,
+        radius: line[2] as i32,
+        number: line.get(3).map_or(0, |&number| number as u32),
+    };
+    lines(text).iter().map(record).collect()
+}
+
+/// The numbers of a path text without point numbers.
+fn path(text: &[u8]) -> Vec<i32> {
+    let three = |record: &Record| [record.x, record.y, record.radius];
+    records(text).iter().flat_map(three).collect()
 }
 
 /// Rows of so many numbers, one a line.
@@ -114,7 +136,18 @@ fn as_text(sheet: &[u8]) -> Result<Vec<u8>, Reply> {
     let [radius, join, closed] = reply.style;
     let count = reply.number as usize;
     match (reply.reply, reply.kind) {
-        (0, 0) => Ok(rows(&room[..3 * count], 3)),
+        (0, 0) => {
+            let points = lent(vec![], 1, |room| numbers(sheet, room))?;
+            let row = |(vertex, &point): (&[i32], &u32)| {
+                let row = String::from_utf8(rows(vertex, 3)).expect("digits");
+                match point {
+                    0 => row,
+                    point => format!("{} {point}\n", row.trim_end()),
+                }
+            };
+            let rows = room[..3 * count].chunks_exact(3).zip(&points).map(row);
+            Ok(rows.collect::<String>().into_bytes())
+        }
         (0, _) => {
             let join = ["bevel", "round"][join as usize];
             let closed = if closed == 1 { " --closed" } else { "" };
@@ -163,19 +196,19 @@ fn whys(sheet: &[u8]) -> Result<Vec<u8>, Reply> {
 fn answer(words: &[&str], input: Vec<u8>) -> Option<Result<Vec<u8>, Reply>> {
     Some(match words {
         ["keep", grade] => {
-            let (path, grade) = (path(&input), grade.parse().ok()?);
-            lent(vec![], 1, |room| keep(&path, grade, room))
+            let (path, grade) = (records(&input), grade.parse().ok()?);
+            lent(vec![], 1, |room| keep_records(&path, grade, room))
         }
         ["draw", grade] => {
             let (path, grade) = (path(&input), grade.parse().ok()?);
             lent(vec![], 4, |room| draw(&path, grade, room)).map(|edges| rows(&edges, 4))
         }
         ["keep-kerb", grade, words @ ..] => {
-            let (points, grade, style) = (path(&input), grade.parse().ok()?, style(words)?);
+            let (points, grade, style) = (points(&input), grade.parse().ok()?, style(words)?);
             lent(vec![], 1, |room| keep_kerb(&points, grade, style, room))
         }
         ["draw-kerb", grade, words @ ..] => {
-            let (points, grade, style) = (path(&input), grade.parse().ok()?, style(words)?);
+            let (points, grade, style) = (points(&input), grade.parse().ok()?, style(words)?);
             let edges = lent(vec![], 4, |room| draw_kerb(&points, grade, style, room));
             edges.map(|edges| rows(&edges, 4))
         }

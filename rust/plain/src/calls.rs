@@ -1,5 +1,6 @@
 //! Document 01, the four calls and "Replies, tested in this order"; in the same
-//! replies, document 02's calls of a kerb, and how far replacing a vertex shows.
+//! replies, document 02's calls of a kerb and of point numbers, and how far
+//! replacing a vertex shows.
 //!
 //! "A refusal changes no lent memory."
 
@@ -8,8 +9,8 @@ use crate::contacts::Vertex;
 use crate::kerbs::{self, KerbDrawing, Style, StyleWords};
 use crate::numbers::Point;
 use crate::outline::{
-    first_difference, kerb_words, laid, laid_kerb, points, put, style_words, vertices, words,
-    Header, EDITION, KERB, LEAST_BYTES, LEAST_KERB_BYTES, STROKE,
+    first_difference, kerb_words, laid_kerb, point_numbers, points, put, style_words, vertices,
+    Edition, Header, Sheet, KERB, LEAST_BYTES, LEAST_KERB_BYTES, STROKE,
 };
 
 /// What is ported: "0 to 4,096 vertices".
@@ -122,12 +123,26 @@ fn drawn_kerb(points: &[Point], grade: u32, style: Style) -> Result<KerbDrawing,
 /// Draw, keep: the path of the lent numbers, three a vertex, or the refusal.
 fn lent_path(numbers: &[i32], grade: u32) -> Result<Vec<Vertex>, Reply> {
     tested_numbers(numbers.len(), 3)?;
-    tested_grade(grade)?;
-    tested_count(numbers.len() as u64 / 3)?;
     let vertex = |n: &[i32]| Vertex::new(n[0] as i64, n[1] as i64, n[2] as i64);
     let path: Vec<Vertex> = numbers.chunks_exact(3).map(vertex).collect();
-    tested_limits(&path)?;
+    tested_path(&path, grade)?;
     Ok(path)
+}
+
+/// Draw, keep: what is tested of a path, however it is lent.
+fn tested_path(path: &[Vertex], grade: u32) -> Result<(), Reply> {
+    tested_grade(grade)?;
+    tested_count(path.len() as u64)?;
+    tested_limits(path)
+}
+
+/// Requests 4 and 11: a vertex record, the point number its "fourth field".
+#[derive(Clone, Copy, Debug, PartialEq, Eq)]
+pub struct Record {
+    pub x: i32,
+    pub y: i32,
+    pub radius: i32,
+    pub number: u32,
 }
 
 /// Draw, keep a kerb: the points of the lent numbers, two a point, and its
@@ -152,9 +167,10 @@ fn tested_index(index: usize, path: &[Vertex]) -> Result<(), Reply> {
     }
 }
 
-/// What a sound outline holds: a path, or the points of a kerb and its style.
+/// What a sound outline holds: a path with point numbers in an edition, or the
+/// points of a kerb and its style.
 enum Line {
-    Path(Vec<Vertex>),
+    Path(Edition, Vec<Vertex>, Vec<u32>),
     Kerb(Vec<Point>, Style),
 }
 
@@ -165,30 +181,30 @@ struct Kept {
     length: usize,
 }
 
-/// Replies: 6, "under 24 bytes, or edition not 1", then 7, the kind, then,
-/// "straight after 7", 6 of a kerb "under 44 bytes".
-fn tested_header(store: &[u8]) -> Result<Header, Reply> {
+/// Replies: 6, "under 24 bytes, or edition not 1", nor, from request 11 on, 2,
+/// then 7, the kind, then, "straight after 7", 6 of a kerb "under 44 bytes" or
+/// of edition 2.
+fn tested_header(store: &[u8]) -> Result<(Header, Edition), Reply> {
     let damaged = Reply::new(6, 0);
     if store.len() < LEAST_BYTES {
         return Err(damaged);
     }
     let header = Header::of(store);
-    if header.edition != EDITION {
-        return Err(damaged);
-    }
+    let edition = Edition::of(header.edition).ok_or(damaged)?;
     if header.kind != STROKE && header.kind != KERB {
         return Err(Reply::new(7, header.kind as u64));
     }
-    if header.kind == KERB && store.len() < LEAST_KERB_BYTES {
+    let short = store.len() < LEAST_KERB_BYTES;
+    if header.kind == KERB && (short || edition == Edition::Second) {
         return Err(damaged);
     }
-    Ok(header)
+    Ok((header, edition))
 }
 
 /// Read, replace: what the sound outline that the store begins with holds, its
 /// grade and its length, or the refusal.
 fn kept(store: &[u8]) -> Result<Kept, Reply> {
-    let header = tested_header(store)?;
+    let (header, edition) = tested_header(store)?;
     tested_grade(header.grade)?;
     let style = match header.kind {
         KERB => Some(tested_style(style_words(store))?),
@@ -198,7 +214,7 @@ fn kept(store: &[u8]) -> Result<Kept, Reply> {
     if (store.len() as u64) < header.length() {
         return Err(Reply::new(6, 0));
     }
-    let (line, words) = kept_line(store, header.grade, style)?;
+    let (line, words) = kept_line(store, edition, header.grade, style)?;
     let length = header.length() as usize;
     match first_difference(&store[..length], &words) {
         Some(byte) => Err(Reply::new(8, byte as u64)),
@@ -212,13 +228,25 @@ fn kept(store: &[u8]) -> Result<Kept, Reply> {
 
 /// Read, replace: what a store says that it holds, and the words that this
 /// gives; or the first vertex outside the limits.
-fn kept_line(store: &[u8], grade: u32, style: Option<Style>) -> Result<(Line, Vec<u32>), Reply> {
+fn kept_line(
+    store: &[u8],
+    edition: Edition,
+    grade: u32,
+    style: Option<Style>,
+) -> Result<(Line, Vec<u32>), Reply> {
     match style {
         None => {
-            let path = vertices(store);
+            let path = vertices(store, edition);
             tested_limits(&path)?;
-            let words = words(&path, grade);
-            Ok((Line::Path(path), words))
+            let numbers = point_numbers(store, edition);
+            let sheet = Sheet {
+                edition,
+                path: &path,
+                numbers: &numbers,
+                grade,
+            };
+            let words = sheet.words();
+            Ok((Line::Path(edition, path, numbers), words))
         }
         Some(style) => {
             let points = points(store);
@@ -229,16 +257,31 @@ fn kept_line(store: &[u8], grade: u32, style: Option<Style>) -> Result<(Line, Ve
     }
 }
 
+/// What is found in a sound outline of kind 0.
+struct KeptPath {
+    edition: Edition,
+    grade: u32,
+    path: Vec<Vertex>,
+    numbers: Vec<u32>,
+    length: usize,
+}
+
 /// Request 3: "replacing or explaining kind 1 is 12, with the kind, just before
-/// 9 or 10".
-fn kept_path(store: &[u8]) -> Result<(u32, Vec<Vertex>, usize), Reply> {
+/// 9 or 10". Request 11: of point numbers "kind 1 is 12, just before 5".
+fn kept_path(store: &[u8]) -> Result<KeptPath, Reply> {
     let Kept {
         grade,
         line,
         length,
     } = kept(store)?;
     match line {
-        Line::Path(path) => Ok((grade, path, length)),
+        Line::Path(edition, path, numbers) => Ok(KeptPath {
+            edition,
+            grade,
+            path,
+            numbers,
+            length,
+        }),
         Line::Kerb(..) => Err(Reply::new(12, KERB as u64)),
     }
 }
@@ -251,7 +294,7 @@ pub(crate) fn kept_length(store: &[u8]) -> Result<usize, Reply> {
 /// The path of the sound outline that a store begins with and its grade, or the
 /// refusal.
 pub(crate) fn kept_drawing(store: &[u8]) -> Result<(Vec<Vertex>, u32), Reply> {
-    kept_path(store).map(|(grade, path, _)| (path, grade))
+    kept_path(store).map(|kept| (kept.path, kept.grade))
 }
 
 /// A call's reply, whether it refused or not.
@@ -270,16 +313,42 @@ pub fn draw(numbers: &[i32], grade: u32, room: &mut [i32]) -> Reply {
     })
 }
 
-/// Four calls: "keep them as bytes".
+/// Four calls: "keep them as bytes". Request 11: "Numbers come in request 4's
+/// records as a fourth field, else are 0".
 pub fn keep(numbers: &[i32], grade: u32, room: &mut [u8]) -> Reply {
+    settle(|| kept_anew(&lent_path(numbers, grade)?, &[], grade, room))
+}
+
+/// Requests 4 and 11: the same of a path lent as vertex records. "Same edges,
+/// same refusals, but 1 can't occur there."
+pub fn keep_records(records: &[Record], grade: u32, room: &mut [u8]) -> Reply {
     settle(|| {
-        let path = lent_path(numbers, grade)?;
-        let words = laid(&path, grade, &drawn(&path, grade)?);
-        let length = 4 * words.len();
-        tested_room(length, 1, room.len())?;
-        put(&words, &mut room[..length]);
-        Ok(Reply::new(0, length as u64))
+        let vertex = |r: &Record| Vertex::new(r.x as i64, r.y as i64, r.radius as i64);
+        let path: Vec<Vertex> = records.iter().map(vertex).collect();
+        let numbers: Vec<u32> = records.iter().map(|record| record.number).collect();
+        tested_path(&path, grade)?;
+        kept_anew(&path, &numbers, grade, room)
     })
+}
+
+/// Request 11: we "write edition 2".
+fn kept_anew(
+    path: &[Vertex],
+    numbers: &[u32],
+    grade: u32,
+    room: &mut [u8],
+) -> Result<Reply, Reply> {
+    let sheet = Sheet {
+        edition: Edition::Second,
+        path,
+        numbers,
+        grade,
+    };
+    let words = sheet.laid(&drawn(path, grade)?);
+    let length = 4 * words.len();
+    tested_room(length, 1, room.len())?;
+    put(&words, &mut room[..length]);
+    Ok(Reply::new(0, length as u64))
 }
 
 /// Request 3: draws a kerb's edges into lent numbers, four an edge.
@@ -313,7 +382,7 @@ pub fn read(store: &[u8], room: &mut [i32]) -> Reply {
     settle(|| {
         let Kept { grade, line, .. } = kept(store)?;
         let (kind, style, each, numbers) = match line {
-            Line::Path(path) => {
+            Line::Path(_, path, _) => {
                 let numbers = path.iter().flat_map(|v| [v.x, v.y, v.radius]);
                 (STROKE, [0; 3], 3, numbers.collect::<Vec<i64>>())
             }
@@ -337,18 +406,42 @@ pub fn read(store: &[u8], room: &mut [i32]) -> Reply {
     })
 }
 
+/// Request 11: "a call like reading gives them back (edition 1: zeros; kind 1 is
+/// 12, just before 5)".
+pub fn numbers(store: &[u8], room: &mut [u32]) -> Reply {
+    settle(|| {
+        let numbers = kept_path(store)?.numbers;
+        tested_room(numbers.len(), 1, room.len())?;
+        room[..numbers.len()].copy_from_slice(&numbers);
+        Ok(Reply::new(0, numbers.len() as u64))
+    })
+}
+
 /// Four calls: "replace a vertex". "After 0, memory past the result is
 /// unchanged, except that a replaced outline that shrank is followed by zeros
-/// up to its old end."
+/// up to its old end." Request 11: "Replacing a vertex keeps its number, and
+/// replacing in an edition 1 outline gives edition 1."
 pub fn replace(store: &mut [u8], index: usize, x: i32, y: i32, radius: i32) -> Reply {
     settle(|| {
-        let (grade, mut path, old) = kept_path(store)?;
+        let KeptPath {
+            edition,
+            grade,
+            mut path,
+            numbers,
+            length: old,
+        } = kept_path(store)?;
         tested_index(index, &path)?;
         path[index] = Vertex::new(x as i64, y as i64, radius as i64);
         if !path[index].allowed() {
             return Err(Reply::new(4, index as u64));
         }
-        let words = laid(&path, grade, &drawn(&path, grade)?);
+        let sheet = Sheet {
+            edition,
+            path: &path,
+            numbers: &numbers,
+            grade,
+        };
+        let words = sheet.laid(&drawn(&path, grade)?);
         let length = 4 * words.len();
         tested_room(length, 1, store.len())?;
         put(&words, &mut store[..length]);
@@ -364,7 +457,7 @@ pub fn replace(store: &mut [u8], index: usize, x: i32, y: i32, radius: i32) -> R
 /// vertices there are where no vertex ends it.
 pub fn reach(store: &[u8], index: usize) -> Reply {
     settle(|| {
-        let (_, path, _) = kept_path(store)?;
+        let path = kept_path(store)?.path;
         tested_index(index, &path)?;
         let reach = chains::reach(&path, index).unwrap_or(path.len());
         Ok(Reply::new(0, reach as u64))

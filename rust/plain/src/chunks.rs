@@ -256,13 +256,13 @@ pub fn compact(chunk: &mut [u8]) -> Reply {
 mod tests {
     use super::*;
     use crate::contacts::Vertex;
-    use crate::outline::bytes;
+    use crate::outline::{first_edition, second_edition};
     use crate::random::Random;
 
     const DAMAGED: Reply = Reply::new(14, 0);
 
     fn lone(radius: i64) -> Vec<u8> {
-        bytes(&[Vertex::new(0, 0, radius)], 1)
+        first_edition(&[Vertex::new(0, 0, radius)], 1)
     }
 
     /// A chunk of bytes that are not zero, with a table of these entries.
@@ -437,7 +437,7 @@ mod tests {
         assert_eq!(add(&mut chunk, 3, &lone(1)), Reply::new(0, 40));
         remove(&mut chunk, 3);
         let path = [Vertex::new(0, 0, 0), Vertex::new(9, 9, 0)];
-        let middle = bytes(&path, 1);
+        let middle = first_edition(&path, 1);
         assert_eq!(middle.len(), 56);
         assert_eq!(add(&mut chunk, 4, &middle), Reply::new(0, 56));
         assert_eq!((find(&chunk, 2).offset, find(&chunk, 4).offset), (52, 220));
@@ -457,6 +457,20 @@ mod tests {
         assert_eq!(chunk[40..50], [1; 10]);
         assert_eq!(chunk[50..55], [3; 5]);
         assert_eq!(chunk[55..], [0; 65]);
+    }
+
+    #[test]
+    fn both_editions_are_added_unchanged() {
+        let outline = second_edition(&[Vertex::new(0, 0, 10)], &[411], 1);
+        let mut chunk = vec![7; 28 + 172 + 168];
+        make(&mut chunk, 2);
+        let longer = [outline.as_slice(), &[9; 30]].concat();
+        assert_eq!(add(&mut chunk, 5, &longer), Reply::new(0, 172));
+        assert_eq!(add(&mut chunk, 6, &lone(10)), Reply::new(0, 168));
+        assert_eq!(chunk[28..200], outline);
+        assert_eq!(chunk[200..], lone(10));
+        let cut = &outline[..171];
+        assert_eq!(add(&mut chunk, 7, cut), Reply::new(6, 0));
     }
 
     #[test]

@@ -10,7 +10,8 @@
 //! * [`chains`] holds "Chains"
 //! * [`outline`] holds "The kept outline"
 //! * [`calls`] holds the four calls, "Replies, tested in this order", document
-//!   02's request 9, "No silent nothing", and how far replacing a vertex shows
+//!   02's requests 9, "No silent nothing", and 11, "Point numbers", whose
+//!   edition 2 stands in [`outline`], and how far replacing a vertex shows
 //! * [`reasons`] holds document 02's request 1, "Why is this edge here?"
 //! * [`oldest`] holds document 02's request 5, "The oldest chunks"
 //! * [`kerbs`] holds document 02's request 3, "Kerbs of one width"

@@ -196,7 +196,7 @@ pub fn printed(store: &[u8]) -> String {
 #[cfg(test)]
 mod tests {
     use super::*;
-    use crate::outline::bytes;
+    use crate::outline::{first_edition, second_edition};
 
     fn path(numbers: &[[i64; 3]]) -> Vec<Vertex> {
         numbers
@@ -258,12 +258,14 @@ mod tests {
 
     #[test]
     fn an_edge_past_the_last_is_10() {
-        let store = bytes(&path(&[[0, 0, 10]]), 1);
-        assert_eq!(explain(&store, 8), (Reply::new(10, 8), None));
-        let (reply, why) = explain(&store, 7);
-        assert_eq!(
-            (reply, why.map(|why| why.place)),
-            (Reply::new(0, 7), Some(7))
-        );
+        let path = path(&[[0, 0, 10]]);
+        for store in [first_edition(&path, 1), second_edition(&path, &[411], 1)] {
+            assert_eq!(explain(&store, 8), (Reply::new(10, 8), None));
+            let (reply, why) = explain(&store, 7);
+            assert_eq!(
+                (reply, why.map(|why| why.place)),
+                (Reply::new(0, 7), Some(7))
+            );
+        }
     }
 }

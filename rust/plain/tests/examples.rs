@@ -5,7 +5,7 @@ mod common;
 use common::{counts, kept, numbers, vertices, Triple};
 use plain::calls::{draw, keep, read, replace, Reply};
 use plain::chains::bodies;
-use plain::outline::words;
+use plain::outline::{Edition, Sheet};
 
 const CIRCLE: [[i32; 4]; 8] = [
     [10, 0, 6, 8],
@@ -17,6 +17,17 @@ const CIRCLE: [[i32; 4]; 8] = [
     [3, -10, 9, -4],
     [9, -4, 10, 0],
 ];
+
+/// The outline of edition 1 of a path, in words.
+fn words(path: &[Triple], grade: u32) -> Vec<u32> {
+    let sheet = Sheet {
+        edition: Edition::First,
+        path: &vertices(path),
+        numbers: &[],
+        grade,
+    };
+    sheet.words()
+}
 
 #[test]
 fn example_1_no_vertices() {
@@ -30,7 +41,7 @@ fn example_2_a_circle_whole() {
     let path = [(0, 0, 10)];
     let mut expected = vec![1, 0, 1, 1, 8, 0, 0, 10, 0, 8];
     expected.extend(CIRCLE.as_flattened().iter().map(|&number| number as u32));
-    assert_eq!(words(&vertices(&path), 1), expected);
+    assert_eq!(words(&path, 1), expected);
     let bytes = kept(&path, 1);
     assert_eq!(bytes.len(), 168);
     let little: Vec<u8> = expected
@@ -126,7 +137,7 @@ fn every_reply_of_draw_and_keep_in_order() {
         (&thin[..5], 1, Reply::new(1, 5)),
     ];
     for (path, grade, expected) in table {
-        for room in [0, 55, 56, 100] {
+        for room in [0, 63, 64, 100] {
             assert_eq!(numbers(&mut vec![0; room], path, grade), expected);
             assert_eq!(bytes(&mut vec![0; room], path, grade), expected);
         }
@@ -135,8 +146,8 @@ fn every_reply_of_draw_and_keep_in_order() {
     assert_eq!(bytes(&mut [0; 24], &[], 1), Reply::new(0, 24));
     assert_eq!(numbers(&mut [0; 31], &[0, 0, 10], 1), Reply::new(5, 8));
     assert_eq!(numbers(&mut [0; 32], &[0, 0, 10], 1), Reply::new(0, 8));
-    assert_eq!(bytes(&mut [0; 167], &[0, 0, 10], 1), Reply::new(5, 168));
-    assert_eq!(bytes(&mut [0; 168], &[0, 0, 10], 1), Reply::new(0, 168));
+    assert_eq!(bytes(&mut [0; 171], &[0, 0, 10], 1), Reply::new(5, 172));
+    assert_eq!(bytes(&mut [0; 172], &[0, 0, 10], 1), Reply::new(0, 172));
 }
 
 /// A store of these words, and `more` zero bytes after them.
@@ -149,13 +160,13 @@ fn store(words: &[u32], more: usize) -> Vec<u8> {
 #[test]
 fn every_reply_of_read_and_replace_in_order() {
     let far = 268435457;
-    let sound = words(&vertices(&[(0, 0, 2)]), 1);
+    let sound = words(&[(0, 0, 2)], 1);
     let mut other = sound.clone();
     other[12] ^= 1 << 16;
     let table = [
         (store(&[], 0), Reply::new(6, 0)),
         (store(&[1, 0, 1, 0, 0], 3), Reply::new(6, 0)),
-        (store(&[2, 1, 9, 4097, 0, 0], 0), Reply::new(6, 0)),
+        (store(&[3, 2, 9, 4097, 0, 0], 0), Reply::new(6, 0)),
         (store(&[1, 2, 9, 4097, 0, 0], 0), Reply::new(7, 2)),
         (store(&[1, 1, 9, 4097, 0, 0], 0), Reply::new(6, 0)),
         (store(&[1, 0, 9, 4097, 0, 0], 0), Reply::new(3, 9)),

@@ -2,7 +2,10 @@
 
 mod common;
 
-use common::{counts, kept, numbers, random_path, random_scale, random_vertex, vertices};
+use common::{
+    counts, kept, numbered, numbers, random_numbers, random_path, random_scale, random_vertex,
+    vertices,
+};
 use plain::calls::{draw, keep, reach, read, replace, Reply};
 use plain::chains::{self, bodies};
 use plain::contacts::{kind, Kind};
@@ -29,14 +32,21 @@ fn draw_and_keep_hold_the_bodies() {
         assert_eq!(room[..edges.len()], edges);
         assert_eq!(room[edges.len()..], [9; 5]);
 
-        let mut words = vec![1, 0, grade, path.len() as u32, edges.len() as u32 / 4];
-        for (&(x, y, r), body) in path.iter().zip(&bodies) {
-            words.extend([x as u32, y as u32, r as u32, body.len() as u32]);
-        }
-        words.push(bodies[path.len()].len() as u32);
-        words.extend(edges.iter().map(|&number| number as u32));
-        let bytes: Vec<u8> = words.iter().flat_map(|word| word.to_le_bytes()).collect();
-        assert_eq!(kept(&path, grade), bytes);
+        let laid = |edition: u32| -> Vec<u8> {
+            let header = [edition, 0, grade, path.len() as u32, edges.len() as u32 / 4];
+            let mut words = header.to_vec();
+            for (&(x, y, r), body) in path.iter().zip(&bodies) {
+                words.extend([x as u32, y as u32, r as u32]);
+                words.extend((edition == 2).then_some(0));
+                words.push(body.len() as u32);
+            }
+            words.push(bodies[path.len()].len() as u32);
+            words.extend(edges.iter().map(|&number| number as u32));
+            words.iter().flat_map(|word| word.to_le_bytes()).collect()
+        };
+        assert_eq!(kept(&path, grade), laid(1));
+        let bytes = laid(2);
+        assert_eq!(numbered(&path, &[], grade), bytes);
         let mut room = vec![0xA5; bytes.len() + 5];
         let reply = keep(&numbers(&path), grade, &mut room);
         if none {
@@ -77,20 +87,22 @@ fn an_outline_reads_back() {
     for _ in 0..3_000 {
         let path = random_path(&mut random, 7);
         let grade = random.between(1, 8) as u32;
-        let mut store = kept(&path, grade);
-        store.extend((0..random.below(9)).map(|i| i as u8));
-        let mut room = vec![9; 3 * path.len() + 4];
-        let expected = Reply {
-            grade,
-            ..Reply::new(0, path.len() as u64)
-        };
-        assert_eq!(read(&store, &mut room), expected);
-        assert_eq!(room[..3 * path.len()], numbers(&path));
-        assert_eq!(room[3 * path.len()..], [9; 4]);
-        if !path.is_empty() {
-            room.truncate(3 * path.len() - 1);
-            let short = read(&store, &mut room);
-            assert_eq!(short, Reply::new(5, path.len() as u64));
+        let points = random_numbers(&mut random, &path);
+        for mut store in [kept(&path, grade), numbered(&path, &points, grade)] {
+            store.extend((0..random.below(9)).map(|i| i as u8));
+            let mut room = vec![9; 3 * path.len() + 4];
+            let expected = Reply {
+                grade,
+                ..Reply::new(0, path.len() as u64)
+            };
+            assert_eq!(read(&store, &mut room), expected);
+            assert_eq!(room[..3 * path.len()], numbers(&path));
+            assert_eq!(room[3 * path.len()..], [9; 4]);
+            if !path.is_empty() {
+                room.truncate(3 * path.len() - 1);
+                let short = read(&store, &mut room);
+                assert_eq!(short, Reply::new(5, path.len() as u64));
+            }
         }
     }
 }
@@ -104,11 +116,17 @@ fn replacing_equals_keeping_the_changed_path() {
             continue;
         }
         let grade = random.between(1, 6) as u32;
-        let old = kept(&path, grade);
+        let points = random_numbers(&mut random, &path);
+        let second = random.chance(50);
+        let outline = |path: &[_]| match second {
+            true => numbered(path, &points, grade),
+            false => kept(path, grade),
+        };
+        let old = outline(&path);
         let (side, radius) = random_scale(&mut random);
         let index = random.below(path.len() as u64) as usize;
         path[index] = random_vertex(&mut random, side, radius);
-        let new = kept(&path, grade);
+        let new = outline(&path);
         let (x, y, r) = path[index];
 
         let mut store = old.clone();
@@ -116,7 +134,8 @@ fn replacing_equals_keeping_the_changed_path() {
         store.resize(longest + 3, 0xEE);
         let before = store.clone();
         let reply = replace(&mut store, index, x, y, r);
-        if new.len() == LEAST_BYTES + 16 * path.len() {
+        let entry = if second { 20 } else { 16 };
+        if new.len() == LEAST_BYTES + entry * path.len() {
             assert_eq!(reply, Reply::new(18, path.len() as u64));
             assert_eq!(store, before);
             continue;

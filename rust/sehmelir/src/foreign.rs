@@ -147,6 +147,9 @@ extern "C" {
 
     fn sehmelir_read(store: *const u8, store_len: usize, out: *mut i32, out_len: usize) -> Path;
 
+    fn sehmelir_numbers(store: *const u8, store_len: usize, out: *mut u32, out_len: usize)
+        -> Reply;
+
     fn sehmelir_replace(
         store: *mut u8,
         store_len: usize,
@@ -250,6 +253,10 @@ pub fn keep_kerb(points: &[i32], grade: u32, style: Style, out: &mut [u8]) -> Re
 
 pub fn read(store: &[u8], out: &mut [i32]) -> Path {
     unsafe { sehmelir_read(store.as_ptr(), store.len(), out.as_mut_ptr(), out.len()) }
+}
+
+pub fn numbers(store: &[u8], out: &mut [u32]) -> Reply {
+    unsafe { sehmelir_numbers(store.as_ptr(), store.len(), out.as_mut_ptr(), out.len()) }
 }
 
 pub fn replace(store: &mut [u8], index: usize, x: i32, y: i32, radius: i32) -> Reply {

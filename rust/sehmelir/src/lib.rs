@@ -34,7 +34,8 @@ pub const GRADES: RangeInclusive<u32> = 1..=8;
 /// more than that.
 pub const STACK: usize = 584 << 10;
 
-/// The bytes of an outline with so many vertices and edges.
+/// The bytes of an outline with so many vertices and edges, as [`keep`] writes
+/// it.
 ///
 /// ```
 /// let store = sehmelir::outline(&[0, 0, 10], 1)?;
@@ -42,7 +43,7 @@ pub const STACK: usize = 584 << 10;
 /// # Ok::<(), sehmelir::Refusal>(())
 /// ```
 pub const fn outline_bytes(vertices: usize, edges: usize) -> usize {
-    24 + 16 * vertices + 16 * edges
+    24 + 20 * vertices + 16 * edges
 }
 
 /// The bytes of a kept kerb with so many vertices and edges.
@@ -92,15 +93,16 @@ pub fn draw(path: &[i32], grade: u32, out: &mut [i32]) -> Result<usize, Refusal>
 }
 
 /// Keeps a path, its grade and its edges as an outline in lent bytes, and
-/// returns how many bytes it has: 24, and 16 for each vertex and each edge.
+/// returns how many bytes it has: 24, 20 for each vertex and 16 for each edge.
 ///
-/// Bytes of `out` past the outline stay as they were.
+/// The outline is of edition 2, and every point number in it is 0. Bytes of
+/// `out` past the outline stay as they were.
 ///
 /// ```
-/// let mut out = [7; 170];
-/// assert_eq!(sehmelir::keep(&[0, 0, 10], 1, &mut out), Ok(168));
-/// assert_eq!(out[..20], [1, 0, 0, 0, 0, 0, 0, 0, 1, 0, 0, 0, 1, 0, 0, 0, 8, 0, 0, 0]);
-/// assert_eq!(out[168..], [7, 7]);
+/// let mut out = [7; 174];
+/// assert_eq!(sehmelir::keep(&[0, 0, 10], 1, &mut out), Ok(172));
+/// assert_eq!(out[..20], [2, 0, 0, 0, 0, 0, 0, 0, 1, 0, 0, 0, 1, 0, 0, 0, 8, 0, 0, 0]);
+/// assert_eq!(out[172..], [7, 7]);
 /// ```
 ///
 /// # Errors
@@ -111,7 +113,7 @@ pub fn draw(path: &[i32], grade: u32, out: &mut [i32]) -> Result<usize, Refusal>
 /// ```
 /// use sehmelir::{keep, Refusal};
 ///
-/// assert_eq!(keep(&[0, 0, 10], 1, &mut []), Err(Refusal::NoRoom(168)));
+/// assert_eq!(keep(&[0, 0, 10], 1, &mut []), Err(Refusal::NoRoom(172)));
 /// ```
 pub fn keep(path: &[i32], grade: u32, out: &mut [u8]) -> Result<usize, Refusal> {
     foreign::keep(path, grade, out).number()
@@ -198,9 +200,9 @@ pub fn keep_kerb(
 /// path and two of a kerb, and returns how many there are, the grade, and what
 /// the outline is of.
 ///
-/// The store begins with the outline and may go on after it. Numbers of `out`
-/// past the vertices stay as they were. An outline without edges, as they were
-/// kept once, still reads.
+/// The store begins with the outline, of edition 1 or 2, and may go on after it.
+/// Numbers of `out` past the vertices stay as they were. An outline without
+/// edges, as they were kept once, still reads.
 ///
 /// ```
 /// use sehmelir::{kerb, outline, read, Form, Join, Style};
@@ -222,7 +224,7 @@ pub fn keep_kerb(
 ///
 /// In this order: [`NotOutline`](Refusal::NotOutline),
 /// [`Kind`](Refusal::Kind), [`NotOutline`](Refusal::NotOutline) of a kerb under
-/// 44 bytes, [`Grade`](Refusal::Grade), [`StyleWord`](Refusal::StyleWord) of a
+/// 44 bytes or of edition 2, [`Grade`](Refusal::Grade), [`StyleWord`](Refusal::StyleWord) of a
 /// kerb, [`TooMany`](Refusal::TooMany), [`NotOutline`](Refusal::NotOutline) of a
 /// store shorter than its header says, [`Outside`](Refusal::Outside),
 /// [`NotSound`](Refusal::NotSound), [`NoRoom`](Refusal::NoRoom) with the
@@ -241,8 +243,52 @@ pub fn read(store: &[u8], out: &mut [i32]) -> Result<Kept, Refusal> {
     foreign::read(store, out).kept()
 }
 
+/// Reads the point numbers of a sound outline of a path into lent numbers, one a
+/// vertex, and returns how many there are.
+///
+/// A point number is any 32-bit word: the vertex's number in the survey book. All
+/// are 0 in an outline that [`keep`] or [`keep_records`] wrote, and in one of
+/// edition 1, which has none. Numbers of `out` past them stay as they were.
+///
+/// ```
+/// use sehmelir::{numbers, outline, replace};
+///
+/// let mut store = outline(&[0, 0, 5, 20, 0, 5, 40, 0, 5], 1)?;
+/// let mut out = [7; 4];
+/// assert_eq!(numbers(&store, &mut out), Ok(3));
+/// assert_eq!(out, [0, 0, 0, 7]);
+///
+/// // number 411 for the first vertex: the word after its radius
+/// store[32..36].copy_from_slice(&411_u32.to_le_bytes());
+/// store.resize(1000, 0);
+/// replace(&mut store, 0, 0, 7, 5)?;
+/// assert_eq!(numbers(&store, &mut out), Ok(3));
+/// assert_eq!(out, [411, 0, 0, 7]);
+/// # Ok::<(), sehmelir::Refusal>(())
+/// ```
+///
+/// # Errors
+///
+/// Those of [`read`] up to [`NotSound`](Refusal::NotSound), then
+/// [`OtherKind`](Refusal::OtherKind) of a kerb, [`NoRoom`](Refusal::NoRoom)
+/// with the vertices. A refusal leaves `out` as it was.
+///
+/// ```
+/// use sehmelir::{kerb, numbers, outline, Join, Refusal, Style};
+///
+/// let style = Style { radius: 5, join: Join::Bevel, closed: false };
+/// let store = kerb(&[0, 0, 20, 0], 1, style)?;
+/// assert_eq!(numbers(&store, &mut []), Err(Refusal::OtherKind(1)));
+/// let store = outline(&[0, 0, 5, 20, 0, 5], 1)?;
+/// assert_eq!(numbers(&store, &mut [7]), Err(Refusal::NoRoom(2)));
+/// # Ok::<(), Refusal>(())
+/// ```
+pub fn numbers(store: &[u8], out: &mut [u32]) -> Result<usize, Refusal> {
+    foreign::numbers(store, out).number()
+}
+
 /// Replaces one vertex in a sound outline, at the same grade, and returns how
-/// many bytes the changed outline has.
+/// many bytes the changed outline has. Its edition and all point numbers stay.
 ///
 /// The whole store is its room. Where it outgrows the old outline it takes the
 /// bytes after that; where it shrinks, zeros follow up to the old end. Bytes
@@ -251,10 +297,10 @@ pub fn read(store: &[u8], out: &mut [i32]) -> Result<Kept, Refusal> {
 /// ```
 /// let mut store = sehmelir::outline(&[0, 0, 10, 3, 0, 2], 1)?;
 /// store.push(7);
-/// assert_eq!(sehmelir::replace(&mut store, 1, 20, 0, 10)?, 216);
-/// assert_eq!(store[..216], sehmelir::outline(&[0, 0, 10, 20, 0, 10], 1)?);
-/// assert_eq!(store[216..312], [0; 96]);
-/// assert_eq!(store[312..], [7]);
+/// assert_eq!(sehmelir::replace(&mut store, 1, 20, 0, 10)?, 224);
+/// assert_eq!(store[..224], sehmelir::outline(&[0, 0, 10, 20, 0, 10], 1)?);
+/// assert_eq!(store[224..320], [0; 96]);
+/// assert_eq!(store[320..], [7]);
 /// # Ok::<(), sehmelir::Refusal>(())
 /// ```
 ///
@@ -274,7 +320,7 @@ pub fn read(store: &[u8], out: &mut [i32]) -> Result<Kept, Refusal> {
 /// assert_eq!(replace(&mut store, 2, 0, 0, 10), Err(Refusal::NoVertex(2)));
 /// assert_eq!(replace(&mut store, 0, 0, 0, -1), Err(Refusal::Outside(0)));
 /// assert_eq!(replace(&mut store, 0, 0, 0, 1), Err(Refusal::WithoutEdges(2)));
-/// assert_eq!(replace(&mut store, 1, 20, 0, 5), Err(Refusal::NoRoom(216)));
+/// assert_eq!(replace(&mut store, 1, 20, 0, 5), Err(Refusal::NoRoom(224)));
 /// # Ok::<(), Refusal>(())
 /// ```
 pub fn replace(
@@ -451,7 +497,7 @@ pub fn edges(path: &[i32], grade: u32) -> Result<Vec<[i32; 4]>, Refusal> {
 ///
 /// ```
 /// assert_eq!(sehmelir::outline(&[], 2)?.len(), 24);
-/// assert_eq!(sehmelir::outline(&[0, 0, 10], 1)?.len(), 168);
+/// assert_eq!(sehmelir::outline(&[0, 0, 10], 1)?.len(), 172);
 /// # Ok::<(), sehmelir::Refusal>(())
 /// ```
 ///

@@ -71,7 +71,7 @@ pub fn draw_records(path: &[Vertex], grade: u32, out: &mut [i32]) -> Result<usiz
 }
 
 /// Keeps a path of vertex records, its grade and its edges as an outline in lent
-/// bytes, and returns how many bytes it has: 24, and 16 for each vertex and each
+/// bytes, and returns how many bytes it has: 24, 20 for each vertex and 16 for each
 /// edge.
 ///
 /// The records are read where they lie. Answer and memory are those of
@@ -81,8 +81,8 @@ pub fn draw_records(path: &[Vertex], grade: u32, out: &mut [i32]) -> Result<usiz
 /// use sehmelir::{keep_records, outline, Vertex};
 ///
 /// let hedge = [[0, 0, 5], [20, 0, 5], [40, 0, 5]];
-/// let mut out = vec![0; 392];
-/// assert_eq!(keep_records(&hedge.map(Vertex::from), 1, &mut out), Ok(392));
+/// let mut out = vec![0; 404];
+/// assert_eq!(keep_records(&hedge.map(Vertex::from), 1, &mut out), Ok(404));
 /// assert_eq!(out, outline(hedge.as_flattened(), 1)?);
 /// # Ok::<(), sehmelir::Refusal>(())
 /// ```

@@ -21,13 +21,14 @@ pub enum Refusal {
     /// 5: the result has so many edges ([`draw`](crate::draw),
     /// [`list`](crate::list)), bytes
     /// ([`keep`](crate::keep), [`replace`](crate::replace)) or vertices
-    /// ([`read`](crate::read), [`import`](crate::import),
-    /// [`export`](crate::export)), and the room lent is shorter; or the outline
+    /// ([`read`](crate::read), [`numbers`](crate::numbers),
+    /// [`import`](crate::import), [`export`](crate::export)), and the room lent is shorter; or the outline
     /// that is added to a [`Chunk`](crate::Chunk) has so many bytes, and the
     /// chunk has no room for it, compacted or not.
     NoRoom(usize),
     /// 6: the store has under 24 bytes, or of kind 1 under 44, or its edition is
-    /// not 1, or it is shorter than its header says.
+    /// neither 1 nor 2, or of kind 1 not 1, or it is shorter than its header
+    /// says.
     NotOutline,
     /// 7: the outline is of this kind, which is neither 0 nor 1.
     Kind(u32),
@@ -41,8 +42,8 @@ pub enum Refusal {
     /// 11: of a kerb's radius, join and closed the first that is outside its
     /// range is the one at this place of the header, counted from 0: 5, 6 or 7.
     StyleWord(u32),
-    /// 12: the outline is of this kind, whose vertices are not replaced and whose
-    /// edges are not explained.
+    /// 12: the outline is of this kind, whose vertices are not replaced and have
+    /// no point numbers, and whose edges are not explained.
     OtherKind(u32),
     /// 13: of the numbers lent to [`import`](crate::import) or
     /// [`export`](crate::export) the one at this place, counted from 0, is the
@@ -112,7 +113,10 @@ impl Display for Refusal {
                  vertices if read, imported or exported, bytes if kept, replaced or added"
             ),
             Refusal::NotOutline => {
-                write!(formatter, "the store is too short or not of edition 1")
+                write!(
+                    formatter,
+                    "the store is too short or not of an edition that is read"
+                )
             }
             Refusal::Kind(kind) => write!(formatter, "kind {kind} is neither 0 nor 1"),
             Refusal::NotSound(byte) => {

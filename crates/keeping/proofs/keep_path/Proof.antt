@@ -14,7 +14,7 @@ same-length-2 : tie.Need-same-length-2
 same-length-2 c = search needs
 
 returns : tie.Need-returns
-returns c = keeps-done _ (c .before .before .before .before .before .before .before .pre .0) (c .before .before .before .rewrite .ensures)
+returns c = keeps-done _ _ (c .before .before .before .before .before .before .before .before .pre .0) (c .before .before .before .rewrite .ensures)
 
 pub keep-path-spec : {M : Type 1} → statement M
 keep-path-spec = tie.close (tie.spec rewrite-requires same-length same-length-2 returns)

@@ -1,23 +1,15 @@
--- `keeping::keep_with` meets its contract: the rows first, then the path. Assumes nothing.
+-- `keeping::keep_with` meets its contract: the posts are one 0, and those that are missing are 0. Assumes nothing.
+use mathlib.Core.Path.{refl}
 use borrow.Author.Needs.{needs}
-use Rattle.keeping.proofs.KeepAnswers.{keeps-refused}
+use Rattle.keeping.proofs.KeepAnswers.{keeps-plain}
 use Rattle.keeping.proofs.keep_with.Statement.{statement}
 use Rattle.keeping.proofs.keep_with.Tie as tie
 
-check-path-requires : tie.Need-check-path-requires
-check-path-requires c κs = search needs
+slice-aggregate-keep-posts : tie.Need-slice-aggregate-keep-posts
+slice-aggregate-keep-posts c = search needs
 
-enum-known-checked : tie.Need-enum-known-checked
-enum-known-checked c = search needs
-
-enum-known-checked-2 : tie.Need-enum-known-checked-2
-enum-known-checked-2 c = search needs
-
-keep-path-requires : tie.Need-keep-path-requires
-keep-path-requires c κs = (c .before .before .before .before .before .check-path .ensures .fits _ (c .before .before .before .checked2 .given .1), c .before .before .before .before .before .before .before .pre)
-
-returns : tie.Need-returns
-returns c = keeps-refused _ _ (c .before .before .before .check-path .ensures) (c .before .checked .given .1)
+keep-posts-requires : tie.Need-keep-posts-requires
+keep-posts-requires c κs = search needs
 
 same-length : tie.Need-same-length
 same-length c = search needs
@@ -25,18 +17,8 @@ same-length c = search needs
 same-length-2 : tie.Need-same-length-2
 same-length-2 c = search needs
 
-returns-2 : tie.Need-returns-2
-returns-2 c = search needs
+returns : tie.Need-returns
+returns c = keeps-plain _ refl (c .before .before .before .keep-posts .ensures)
 
 pub keep-with-spec : {M : Type 1} → statement M
-keep-with-spec =
-    tie.close
-    (tie.spec
-    check-path-requires
-    enum-known-checked
-    enum-known-checked-2
-    keep-path-requires
-    returns
-    same-length
-    same-length-2
-    returns-2)
+keep-with-spec = tie.close (tie.spec slice-aggregate-keep-posts keep-posts-requires same-length same-length-2 returns)

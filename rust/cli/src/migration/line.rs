@@ -74,7 +74,7 @@ impl Line {
             return Err(Failure::NoFile.into());
         }
         let length = told.len() as usize;
-        if length % 12 != 0 {
+        if !length.is_multiple_of(12) {
             return Err(uneven(length).into());
         }
         if length > MOST_BYTES {

@@ -225,9 +225,9 @@ fn so_far(job: &Job, store: &Store) -> Result<(Tally, Vec<usize>), Failure> {
     let (mut done, mut left, mut tiles) = (Tally::default(), Vec::new(), HashSet::new());
     for group in 0..job.groups() {
         match store.done(job, group)? {
-            Some((tally, of_group)) => {
-                done = done.and(tally);
-                tiles.extend(of_group.into_keys());
+            Some(of_group) => {
+                done = done.and(of_group.tally);
+                tiles.extend(of_group.tiles.into_keys());
             }
             None => left.push(group),
         }

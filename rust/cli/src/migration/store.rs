@@ -30,6 +30,12 @@ pub struct Store {
     _lock: File,
 }
 
+/// A group that is done: what it comes to, and its tiles, each with its length.
+pub struct Done {
+    pub tally: Tally,
+    pub tiles: BTreeMap<String, usize>,
+}
+
 impl Store {
     /// The directory of a run, made if it is not there; its settings are those
     /// asked for, or written now.
@@ -147,13 +153,9 @@ impl Store {
         written.map_err(|error| Failure::Unwritten(error).of(&place))
     }
 
-    /// What a group that is done comes to, and its tiles; none where it is not,
-    /// or a tile of it is not as long as its outlines are.
-    pub fn done(
-        &self,
-        job: &Job,
-        group: usize,
-    ) -> Result<Option<(Tally, BTreeMap<String, usize>)>, Failure> {
+    /// A group that is done; none where it is not, or a tile of it is not as long
+    /// as its outlines are.
+    pub fn done(&self, job: &Job, group: usize) -> Result<Option<Done>, Failure> {
         let place = self.part(group);
         let Ok(text) = fs::read(&place) else {
             return Ok(None);
@@ -178,7 +180,7 @@ impl Store {
             return Err(other_file(&self.directory, &name));
         }
         let whole = tiles.iter().all(|(tile, &bytes)| self.has(tile, bytes));
-        Ok(whole.then_some((tally, tiles)))
+        Ok(whole.then_some(Done { tally, tiles }))
     }
 
     /// Whether a tile is there, as long as its table and its outlines are.

@@ -66,6 +66,7 @@ fn alone(
 ) -> String {
     let changes = Changes {
         vertices: vec![false; sheet.vertices().len()],
+        numbers: vec![],
         bodies: vec![false; sheet.bodies().len()],
     };
     let region = Loops::of(sheet);

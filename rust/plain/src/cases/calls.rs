@@ -6,7 +6,7 @@ use plain::calls::{draw, keep};
 use plain::contacts::{Vertex, LIMIT};
 use plain::kerbs::{Style, StyleWords};
 use plain::numbers::Point;
-use plain::outline;
+use plain::outline::{self, Edition, Header};
 use plain::random::Random;
 
 const MOST: i32 = LIMIT as i32;
@@ -71,12 +71,24 @@ fn needed_numbers(path: &[i32], grade: u32) -> usize {
     }
 }
 
+const EDITIONS: [Edition; 2] = [Edition::First, Edition::Second];
+
 /// The outline of a path inside the limits, also of one without edges, which
-/// was kept once and still reads.
-fn kept(path: &[i32], grade: u32) -> Vec<u8> {
+/// was kept once and still reads. In edition 2 it has these point numbers.
+fn numbered(edition: Edition, path: &[i32], numbers: &[u32], grade: u32) -> Vec<u8> {
     let vertex = |n: &[i32]| Vertex::new(n[0] as i64, n[1] as i64, n[2] as i64);
     let path: Vec<Vertex> = path.chunks_exact(3).map(vertex).collect();
-    outline::bytes(&path, grade)
+    match edition {
+        Edition::First => outline::first_edition(&path, grade),
+        Edition::Second => outline::second_edition(&path, numbers, grade),
+    }
+}
+
+/// The same with point numbers that all differ, small and large ones.
+fn kept(edition: Edition, path: &[i32], grade: u32) -> Vec<u8> {
+    let number = |k: usize| 0xFEDC_BA98u32.wrapping_mul(k as u32 + 1);
+    let numbers: Vec<u32> = (0..path.len() / 3).map(number).collect();
+    numbered(edition, path, &numbers, grade)
 }
 
 /// A kept kerb, also one without edges.
@@ -87,11 +99,11 @@ fn kept_kerb(points: &[[i32; 2]], grade: u32, style: StyleWords) -> Vec<u8> {
     outline::kerb_bytes(&points, grade, style)
 }
 
-/// The bytes that a path's outline has, whether or not its edges are any; 0 if
-/// the path is refused for another reason.
+/// The bytes that a path's outline has when it is kept, whether or not its edges
+/// are any; 0 if the path is refused for another reason.
 fn length(path: &[i32], grade: u32) -> usize {
     match keep(path, grade, &mut []).reply {
-        5 | 18 => kept(path, grade).len(),
+        5 | 18 => kept(Edition::Second, path, grade).len(),
         _ => 0,
     }
 }
@@ -150,9 +162,13 @@ pub fn fixed() -> Vec<String> {
     }
     refused_paths(&mut cases);
     paths_without_edges(&mut cases);
-    refused_stores(&mut cases);
+    for edition in EDITIONS {
+        refused_stores(&mut cases, edition);
+    }
     kept_kerbs(&mut cases);
-    changed_lengths(&mut cases);
+    for edition in EDITIONS {
+        changed_lengths(&mut cases, edition);
+    }
     each_byte_damaged(&mut cases);
     many_vertices(&mut cases);
     cases
@@ -180,16 +196,18 @@ fn each_call(cases: &mut Vec<String>, path: &[Triple], grade: u32) {
     if room == 0 {
         return;
     }
-    let store = kept(&path, grade);
-    cases.push(read_case(path.len(), &store));
-    cases.push(read_case(path.len() + 2, &store));
-    cases.push(read_case(path.len().saturating_sub(1), &store));
-    let longer = [store.as_slice(), &[0xEE; 7]].concat();
-    cases.push(read_case(path.len(), &longer));
-    for index in 0..=path.len() / 3 {
-        for vertex in [[0, 0, 0], [0, 0, 1], [2, 1, 4]] {
-            cases.push(replace_case(index as i64, vertex, &store));
-            cases.push(replace_case(index as i64, vertex, &longer));
+    for edition in EDITIONS {
+        let store = kept(edition, &path, grade);
+        cases.push(read_case(path.len(), &store));
+        cases.push(read_case(path.len() + 2, &store));
+        cases.push(read_case(path.len().saturating_sub(1), &store));
+        let longer = [store.as_slice(), &[0xEE; 7]].concat();
+        cases.push(read_case(path.len(), &longer));
+        for index in 0..=path.len() / 3 {
+            for vertex in [[0, 0, 0], [0, 0, 1], [2, 1, 4]] {
+                cases.push(replace_case(index as i64, vertex, &store));
+                cases.push(replace_case(index as i64, vertex, &longer));
+            }
         }
     }
 }
@@ -268,7 +286,7 @@ fn paths_without_edges(cases: &mut Vec<String>) {
         cases.push(draw_case(1, 0, path));
         cases.push(keep_case(1, 0, path));
     }
-    cases.push(keep_case(1, 24 + 16 * 4096, &thin[3..]));
+    cases.push(keep_case(1, 24 + 20 * 4096, &thin[3..]));
     // Replacements that leave none, and one that leaves some where none were.
     for path in [
         &[[0, 0, 2]][..],
@@ -276,12 +294,14 @@ fn paths_without_edges(cases: &mut Vec<String>) {
         &[[0, 0, 1], [9, 0, 2], [30, 0, 0]],
         &[[0, 0, 1], [9, 0, 1], [30, 0, 0]],
     ] {
-        let store = kept(&flat(path), 1);
-        let longer = [store.as_slice(), &[0xEE; 300]].concat();
-        for index in 0..=path.len() as i64 {
-            for vertex in [[0, 0, 0], [9, 0, 1], [0, 0, 2], [0, 0, -1]] {
-                cases.push(replace_case(index, vertex, &store));
-                cases.push(replace_case(index, vertex, &longer));
+        for edition in EDITIONS {
+            let store = kept(edition, &flat(path), 1);
+            let longer = [store.as_slice(), &[0xEE; 300]].concat();
+            for index in 0..=path.len() as i64 {
+                for vertex in [[0, 0, 0], [9, 0, 1], [0, 0, 2], [0, 0, -1]] {
+                    cases.push(replace_case(index, vertex, &store));
+                    cases.push(replace_case(index, vertex, &longer));
+                }
             }
         }
     }
@@ -298,39 +318,49 @@ fn with_word(store: &[u8], place: usize, word: u32) -> Vec<u8> {
     store
 }
 
-/// Each refusal of read and replace, alone and before those that come later.
-fn refused_stores(cases: &mut Vec<String>) {
+/// Each refusal of read and replace of an edition, alone and before those that
+/// come later.
+fn refused_stores(cases: &mut Vec<String>, edition: Edition) {
     let past = MOST as u32 + 1;
-    let sound = kept(&[0, 0, 2, 30, 0, 5], 1);
-    let empty = kept(&[], 1);
-    let lone = kept(&[0, 0, 2], 1);
+    let sound = kept(edition, &[0, 0, 2, 30, 0, 5], 1);
+    let empty = kept(edition, &[], 1);
+    let lone = kept(edition, &[0, 0, 2], 1);
     let longer = [sound.as_slice(), &[0; 48]].concat();
-    let edges = (sound.len() as u32 - 56) / 16;
+    let edges = Header::of(&sound).edges;
+    let (first, entry) = (edition as u32, edition.entry_words());
+    // A vertex at (x, 0) of radius 0 with so many edges, and so many at the end.
+    let lone_words = |x: u32, count: u32, closing: u32| {
+        let mut words = vec![first, 0, 8, 1, 0, x];
+        words.resize(4 + entry, 0);
+        words.extend([count, closing]);
+        words
+    };
     let mut stores = vec![
         vec![],
         empty[..23].to_vec(),
         empty.clone(),
-        bytes(&[2, 0, 1, 0, 0]),
-        bytes(&[1, 5, 9, 4097, 0]),
-        bytes(&[2, 5, 9, 4097, 0, 0]),
-        bytes(&[1, 5, 9, 4097, 0, 0]),
-        bytes(&[1, 0, 9, 4097, 0, 0]),
-        bytes(&[1, 0, 8, 4097, 0, 0]),
-        bytes(&[1, 0, 8, 4096, 0, 0]),
-        bytes(&[1, 0, 8, u32::MAX, u32::MAX, 0]),
-        bytes(&[1, 0, 8, 0, u32::MAX, 0]),
-        bytes(&[1, 0, 8, 0, 1 << 28, 0]),
-        bytes(&[1, 0, 8, 1, 0, past, 0, 0, 0]),
-        bytes(&[1, 0, 8, 1, 0, past, 0, 0, 0, 0]),
-        bytes(&[1, 0, 8, 1, 0, 0, 0, 0, 0, 9]),
-        bytes(&[1, 0, 8, 1, 0, 0, 0, 0, 9, 0]),
-        bytes(&[1, 0, 8, 0, 0, 1 << 24]),
+        bytes(&[3, 0, 1, 0, 0]),
+        bytes(&[first, 5, 9, 4097, 0]),
+        bytes(&[3, 5, 9, 4097, 0, 0]),
+        bytes(&[first, 5, 9, 4097, 0, 0]),
+        bytes(&[first, 0, 9, 4097, 0, 0]),
+        bytes(&[first, 0, 8, 4097, 0, 0]),
+        bytes(&[first, 0, 8, 4096, 0, 0]),
+        bytes(&[first, 0, 8, u32::MAX, u32::MAX, 0]),
+        bytes(&[first, 0, 8, 0, u32::MAX, 0]),
+        bytes(&[first, 0, 8, 0, 1 << 28, 0]),
+        bytes(&lone_words(past, 0, 0)[..5 + entry]),
+        bytes(&lone_words(past, 0, 0)),
+        bytes(&lone_words(0, 0, 9)),
+        bytes(&lone_words(0, 9, 0)),
+        bytes(&[first, 0, 8, 0, 0, 1 << 24]),
         sound[..sound.len() - 1].to_vec(),
         sound[..24].to_vec(),
         [lone.as_slice(), &lone].concat(),
     ];
-    for word in [0, 2, 257, 1 << 24, u32::MAX] {
+    for word in [0, 1, 2, 3, 257, 1 << 24, u32::MAX] {
         stores.push(with_word(&sound, 0, word));
+        stores.push(with_word(&longer, 0, word));
     }
     for word in [1, 256, 1 << 31, u32::MAX] {
         stores.push(with_word(&sound, 1, word));
@@ -344,19 +374,17 @@ fn refused_stores(cases: &mut Vec<String>) {
     for word in [0, edges - 1, edges + 1, edges + 3, edges + 4, u32::MAX] {
         stores.push(with_word(&longer, 4, word));
     }
-    for place in 5..14 {
+    for place in 5..=5 + 2 * entry {
         for word in [past, past.wrapping_neg(), past - 1, u32::MAX, 1 << 31] {
             stores.push(with_word(&sound, place, word));
         }
     }
     // One edge more for one body and one less for the other.
-    let counts = [8, 12, 13].map(|place| {
-        let at = 4 * place;
-        u32::from_le_bytes([sound[at], sound[at + 1], sound[at + 2], sound[at + 3]])
-    });
-    let moved = with_word(&sound, 12, counts[1] - 1);
-    stores.push(with_word(&moved, 13, counts[2] + 1));
-    stores.push(with_word(&moved, 8, counts[0] + 1));
+    let places = [4 + entry, 4 + 2 * entry, 5 + 2 * entry];
+    let counts = places.map(|place| outline::word(&sound, place));
+    let moved = with_word(&sound, places[1], counts[1] - 1);
+    stores.push(with_word(&moved, places[2], counts[2] + 1));
+    stores.push(with_word(&moved, places[0], counts[0] + 1));
 
     for store in &stores {
         cases.push(read_case(6, store));
@@ -410,6 +438,11 @@ fn kept_kerbs(cases: &mut Vec<String>) {
         bytes(&[1, 1, 9, 4097, 0, past, 2, 2, 0, 0]),
         bytes(&[1, 1, 9, 4097, 0, past, 2, 2, 0, 0, 0]),
         bytes(&[1, 2, 9, 4097, 0, past, 2, 2, 0, 0, 0]),
+        bytes(&[2, 2, 9, 4097, 0, past, 2, 2, 0, 0, 0]),
+        bytes(&[2, 1, 9, 4097, 0, past, 2, 2, 0, 0, 0]),
+        bytes(&[2, 1, 9, 4097, 0, past, 2, 2, 0, 0]),
+        bytes(&[3, 1, 9, 4097, 0, past, 2, 2, 0, 0, 0]),
+        with_word(&kept_kerb(&[], 1, [0, 0, 0]), 0, 2),
         bytes(&[1, 1, 8, 4097, 0, past, 2, 2, 0, 0, 0]),
         bytes(&[1, 1, 8, 4097, 0, 5, 2, 2, 0, 0, 0]),
         bytes(&[1, 1, 8, 4097, 0, 5, 1, 2, 0, 0, 0]),
@@ -439,7 +472,7 @@ fn kept_kerbs(cases: &mut Vec<String>) {
 }
 
 /// Replaced outlines that grow into room, lack one byte of it, or shrink.
-fn changed_lengths(cases: &mut Vec<String>) {
+fn changed_lengths(cases: &mut Vec<String>, edition: Edition) {
     let small = [0, 0, 1];
     let large = [0, 0, 10];
     let (less, more) = (length(&small, 1), length(&large, 1));
@@ -450,7 +483,7 @@ fn changed_lengths(cases: &mut Vec<String>) {
         more - less + 1,
         more - less + 9,
     ] {
-        let store = [kept(&small, 1), vec![0xEE; extra]].concat();
+        let store = [kept(edition, &small, 1), vec![0xEE; extra]].concat();
         cases.push(replace_case(0, large, &store));
     }
     // From a circle to two sides and two half turns: 8 edges, then 10.
@@ -465,7 +498,7 @@ fn changed_lengths(cases: &mut Vec<String>) {
         cases.push(edit_case(1, &edit, &flat(EXAMPLES[8])));
     }
     for extra in [0, 1, 9] {
-        let store = [kept(&large, 1), vec![0xEE; extra]].concat();
+        let store = [kept(edition, &large, 1), vec![0xEE; extra]].concat();
         cases.push(replace_case(0, small, &store));
         cases.push(replace_case(0, [5, 5, 2], &store));
         cases.push(replace_case(0, large, &store));
@@ -473,7 +506,7 @@ fn changed_lengths(cases: &mut Vec<String>) {
     let path = flat(EXAMPLES[5]);
     for index in 0..3 {
         for vertex in [[20, 0, 5], [20, 5, 5], [0, 0, 0], [20, 0, 40], [21, 0, 1]] {
-            let store = [kept(&path, 1), vec![0xEE; 100]].concat();
+            let store = [kept(edition, &path, 1), vec![0xEE; 100]].concat();
             cases.push(replace_case(index, vertex, &store));
         }
     }
@@ -500,12 +533,14 @@ fn each_byte_damaged(cases: &mut Vec<String>) {
         (EXAMPLES[3], 1),
         (EXAMPLES[9], 255),
     ] {
-        let store = kept(&flat(path), 1);
-        for at in 0..store.len().min(56) {
-            let mut store = store.clone();
-            store[at] = store[at].wrapping_add(value);
-            cases.push(read_case(6, &store));
-            cases.push(replace_case(0, [0, 0, 1], &store));
+        for edition in EDITIONS {
+            let store = kept(edition, &flat(path), 1);
+            for at in 0..store.len() {
+                let mut store = store.clone();
+                store[at] = store[at].wrapping_add(value);
+                cases.push(read_case(6, &store));
+                cases.push(replace_case(0, [0, 0, 2], &store));
+            }
         }
     }
 }
@@ -516,7 +551,9 @@ fn many_vertices(cases: &mut Vec<String>) {
         let vertex = |i| [50 * i, bend * (i % 3), radius + i % 4];
         (0..count).flat_map(vertex).collect()
     };
-    let small = path(4096, 10, 20);
+    // Its outline has less than half a mebibyte, as much as the program that is
+    // run on the list lends.
+    let small = path(4096, 9, 20);
     let large = path(4096, 100_000_000, 20);
     for grade in [1, 8] {
         cases.push(draw_case(grade, 0, &small));
@@ -799,12 +836,25 @@ impl Maker {
         }
     }
 
-    /// An outline short enough to be written as a case, and its path.
+    /// A point number: any word, most often a small one.
+    fn number(&mut self) -> u32 {
+        let random = &mut self.random;
+        match random.below(4) {
+            0 => 0,
+            1 => random.between(0, u32::MAX as i64) as u32,
+            _ => random.below(1000) as u32,
+        }
+    }
+
+    /// An outline of either edition short enough to be written as a case, and
+    /// its path.
     fn store(&mut self) -> (Vec<Triple>, u32, Vec<u8>) {
         loop {
             let (path, grade) = (self.sound_path(), self.random.between(1, 8) as u32);
             let grade = if self.random.chance(60) { 1 } else { grade };
-            let store = kept(&flat(&path), grade);
+            let edition = self.random.pick(&EDITIONS);
+            let numbers: Vec<u32> = path.iter().map(|_| self.number()).collect();
+            let store = numbered(edition, &flat(&path), &numbers, grade);
             let most = self.random.pick(&[200, 600, 1200, 3800]);
             if store.len() <= most {
                 return (path, grade, store);
@@ -814,8 +864,9 @@ impl Maker {
 
     /// A byte or a word of a store changed, or its end cut.
     fn damage(&mut self, store: &mut Vec<u8>) {
-        let header = outline::Header::of(store);
+        let header = Header::of(store);
         let (vertices, edges) = (header.vertices, header.edges);
+        let entry = Edition::of(header.edition).map_or(4, Edition::entry_words) as u64;
         let kerb = header.kind == outline::KERB;
         let places = store.len() as u64 / 4;
         let past = MOST as u32 + 1;
@@ -834,7 +885,7 @@ impl Maker {
                 store.truncate(random.pick(&[0, 4, 23, 24, store.len() - 1]));
                 return;
             }
-            5 => (0, random.pick(&[0, 2, 257, u32::MAX])),
+            5 => (0, random.pick(&[0, 1, 2, 3, 257, u32::MAX])),
             6 => (1, random.pick(&[0, 1, 2, 1 << 16, 1 << 31])),
             7 => (2, random.pick(&[0, 1, 2, 8, 9, 256, u32::MAX])),
             8 => {
@@ -849,7 +900,7 @@ impl Maker {
                 let vertex = random.below(vertices as u64);
                 let place = match kerb {
                     true => 8 + 2 * vertex + random.below(2),
-                    false => 5 + 4 * vertex + random.below(3),
+                    false => 5 + entry * vertex + random.below(entry - 1),
                 };
                 let words = [past, past.wrapping_neg(), 1 << 31, u32::MAX, 0, 1];
                 (place as usize, random.pick(&words))
@@ -857,7 +908,7 @@ impl Maker {
             11 if vertices > 0 => {
                 let place = match kerb {
                     true => 8 + 2 * vertices as u64 + random.below(3),
-                    false => 8 + 4 * random.below(vertices as u64),
+                    false => 4 + entry * (1 + random.below(vertices as u64)),
                 };
                 (place as usize, random.below(12) as u32)
             }
@@ -987,8 +1038,8 @@ impl Maker {
         edit_case(grade, &edit, &path)
     }
 
-    /// Small outlines with each of their bytes damaged in turn, those without
-    /// edges as lent stores, since they are no longer kept.
+    /// Small outlines with each of their bytes damaged in turn, those of edition
+    /// 1 and those without edges as lent stores, since they are no longer kept.
     fn damage_in_turn(&mut self) -> String {
         let paths = [
             READINGS[0],
@@ -999,22 +1050,26 @@ impl Maker {
         ];
         let mut at = self.turn;
         self.turn += 1;
-        let stores = paths.map(|path| kept(&flat(path), 1));
+        let stores: Vec<Vec<u8>> = EDITIONS
+            .iter()
+            .flat_map(|&edition| paths.map(|path| kept(edition, &flat(path), 1)))
+            .collect();
         at %= stores.iter().map(Vec::len).sum::<usize>();
         let mut place = 0;
         while at >= stores[place].len() {
             at -= stores[place].len();
             place += 1;
         }
-        let path = flat(paths[place]);
+        let second = place >= paths.len();
+        let path = flat(paths[place % paths.len()]);
         let edit = Edit {
             extra: self.random.pick(&[0, 1, 200]),
             at: at as i64,
             value: self.random.between(1, 255),
-            index: self.index(paths[place].len()),
+            index: self.index(path.len() / 3),
             vertex: self.any_vertex(),
         };
-        if needed(&path, 1) > 0 {
+        if second && needed(&path, 1) > 0 {
             return edit_case(1, &edit, &path);
         }
         let mut store = stores[place].clone();

@@ -2,7 +2,7 @@
 
 use super::closing::path;
 use plain::contacts::Vertex;
-use plain::outline::bytes;
+use plain::outline::{first_edition, second_edition};
 use plain::random::Random;
 
 /// Joins to both sides, a gap after thin steps, a step that breaks the chain,
@@ -18,19 +18,29 @@ const PATH: [[i64; 3]; 8] = [
     [130, 31, 40],
 ];
 
-/// That path kept at grade 3.
+/// That path kept at grade 3, with a number at some of its points.
 pub fn store() -> Vec<u8> {
-    bytes(&PATH.map(|[x, y, radius]| Vertex::new(x, y, radius)), 3)
+    let path = PATH.map(|[x, y, radius]| Vertex::new(x, y, radius));
+    second_edition(&path, &[411, 412, 0, u32::MAX], 3)
 }
 
-/// A store that `seed` determines; one in five has a byte changed or is cut.
+/// A store of either edition that `seed` determines; one in five has a byte
+/// changed or is cut.
 pub fn random(seed: u64) -> Vec<u8> {
     let mut random = Random::new(seed);
     let path: Vec<Vertex> = path(&mut random)
         .into_iter()
         .map(|[x, y, radius]| Vertex::new(x, y, radius))
         .collect();
-    let mut store = bytes(&path, random.between(1, 8) as u32);
+    let grade = random.between(1, 8) as u32;
+    let mut store = match random.chance(40) {
+        true => first_edition(&path, grade),
+        false => {
+            let number = |_: &Vertex| random.between(0, u32::MAX as i64) as u32;
+            let numbers: Vec<u32> = path.iter().map(number).collect();
+            second_edition(&path, &numbers, grade)
+        }
+    };
     let place = random.below(store.len() as u64) as usize;
     match random.below(10) {
         0 => store[place] ^= 1 << random.below(8),

@@ -4,6 +4,7 @@
 
 use plain::chains::bodies;
 use plain::contacts::Vertex;
+use plain::outline::{first_edition, second_edition};
 use plain::random::Random;
 
 pub type Triple = (i32, i32, i32);
@@ -66,8 +67,23 @@ pub fn random_path(random: &mut Random, most: u64) -> Vec<Triple> {
     path
 }
 
-/// The sound outline of a path, as an older program kept it even where there
-/// are no edges.
+/// The sound outline of edition 1 of a path, as an older program kept it even
+/// where there are no edges.
 pub fn kept(path: &[Triple], grade: u32) -> Vec<u8> {
-    plain::outline::bytes(&vertices(path), grade)
+    first_edition(&vertices(path), grade)
+}
+
+/// The sound outline of edition 2 of a path with these point numbers.
+pub fn numbered(path: &[Triple], numbers: &[u32], grade: u32) -> Vec<u8> {
+    second_edition(&vertices(path), numbers, grade)
+}
+
+/// A random point number: any word.
+pub fn random_number(random: &mut Random) -> u32 {
+    random.between(0, u32::MAX as i64) as u32
+}
+
+/// A random point number for each vertex.
+pub fn random_numbers(random: &mut Random, path: &[Triple]) -> Vec<u32> {
+    path.iter().map(|_| random_number(random)).collect()
 }

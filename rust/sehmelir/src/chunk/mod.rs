@@ -74,7 +74,7 @@ impl<B: AsRef<[u8]>> Chunk<B> {
     /// ```
     /// let mut chunk = sehmelir::Chunk::make([0; 300], 2)?;
     /// chunk.add(7, &sehmelir::outline(&[0, 0, 10], 1)?)?;
-    /// assert_eq!(chunk.find(7), Ok(28..196));
+    /// assert_eq!(chunk.find(7), Ok(28..200));
     /// # Ok::<(), sehmelir::Refusal>(())
     /// ```
     ///
@@ -142,7 +142,7 @@ impl<B: AsRef<[u8]> + AsMut<[u8]>> Chunk<B> {
     ///
     /// ```
     /// let mut chunk = sehmelir::Chunk::make([0; 300], 2)?;
-    /// assert_eq!(chunk.add(7, &sehmelir::outline(&[0, 0, 10], 1)?), Ok(168));
+    /// assert_eq!(chunk.add(7, &sehmelir::outline(&[0, 0, 10], 1)?), Ok(172));
     /// # Ok::<(), sehmelir::Refusal>(())
     /// ```
     ///
@@ -160,10 +160,10 @@ impl<B: AsRef<[u8]> + AsMut<[u8]>> Chunk<B> {
     ///
     /// let circle = outline(&[0, 0, 10], 1)?;
     /// let mut chunk = Chunk::make([0; 300], 2)?;
-    /// assert_eq!(chunk.add(7, &circle[..167]), Err(Refusal::NotOutline));
+    /// assert_eq!(chunk.add(7, &circle[..171]), Err(Refusal::NotOutline));
     /// chunk.add(7, &circle)?;
     /// assert_eq!(chunk.add(7, &circle), Err(Refusal::KeyThere(7)));
-    /// assert_eq!(chunk.add(8, &circle), Err(Refusal::NoRoom(168)));
+    /// assert_eq!(chunk.add(8, &circle), Err(Refusal::NoRoom(172)));
     /// chunk.add(8, &outline(&[], 1)?)?;
     /// assert_eq!(chunk.add(9, &circle), Err(Refusal::TableFull(2)));
     /// # Ok::<(), Refusal>(())
@@ -189,7 +189,7 @@ impl<B: AsRef<[u8]> + AsMut<[u8]>> Chunk<B> {
     /// ```
     /// let mut chunk = sehmelir::Chunk::make([0; 300], 2)?;
     /// chunk.add(7, &sehmelir::outline(&[0, 0, 10], 1)?)?;
-    /// assert_eq!(chunk.remove(7), Ok(168));
+    /// assert_eq!(chunk.remove(7), Ok(172));
     /// assert_eq!(chunk.remove(7), Err(sehmelir::Refusal::KeyMissing(7)));
     /// # Ok::<(), sehmelir::Refusal>(())
     /// ```
@@ -211,7 +211,7 @@ impl<B: AsRef<[u8]> + AsMut<[u8]>> Chunk<B> {
     /// chunk.add(7, &circle)?;
     /// chunk.add(8, &none)?;
     /// chunk.remove(7)?;
-    /// assert_eq!(chunk.find(8)?, 196..220);
+    /// assert_eq!(chunk.find(8)?, 200..224);
     /// assert_eq!(chunk.compact(), Ok(52));
     /// assert_eq!(chunk.find(8)?, 28..52);
     /// # Ok::<(), sehmelir::Refusal>(())

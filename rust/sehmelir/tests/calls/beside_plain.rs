@@ -120,6 +120,15 @@ pub fn replace(store: &[u8], index: usize, vertex: [i32; 3]) -> (Reply, Vec<u8>)
     (reply, expected)
 }
 
+pub fn point_numbers(store: &[u8], length: usize) -> Reply {
+    let mut expected = room(length);
+    let (answered, out) = lent::numbers(store, &expected);
+    let reply = plain::calls::numbers(store, &mut expected);
+    assert_eq!(answered, answer(reply), "numbers {store:?} {length}");
+    assert!(out == expected, "numbers {store:?} {length}");
+    reply
+}
+
 pub fn reach(store: &[u8], index: usize) -> Reply {
     let reply = plain::calls::reach(store, index);
     let answered = lent::reach(store, index);
@@ -140,15 +149,29 @@ fn vertices(path: &[[i32; 3]]) -> Vec<Vertex> {
     path.iter().map(vertex).collect()
 }
 
-/// The sound outline of a path within the limits, as it was kept once even
-/// where there are no edges.
+/// The sound outline of edition 1 of a path within the limits, as it was kept
+/// once even where there are no edges.
 pub fn outline(path: &[[i32; 3]], grade: u32) -> Vec<u8> {
-    plain::outline::bytes(&vertices(path), grade)
+    plain::outline::first_edition(&vertices(path), grade)
+}
+
+/// The sound outline of edition 2 of such a path with these point numbers, those
+/// that are missing being 0.
+pub fn numbered(path: &[[i32; 3]], numbers: &[u32], grade: u32) -> Vec<u8> {
+    plain::outline::second_edition(&vertices(path), numbers, grade)
+}
+
+/// A sound outline of either edition.
+pub fn of_either_edition(maker: &mut Maker, path: &[[i32; 3]], grade: u32) -> Vec<u8> {
+    match maker.chance(40) {
+        true => outline(path, grade),
+        false => numbered(path, &maker.numbers(path.len()), grade),
+    }
 }
 
 /// Whether a path of one vertex or more has no edges.
 fn without_edges(path: &[[i32; 3]]) -> bool {
-    !path.is_empty() && outline(path, 1).len() == sehmelir::outline_bytes(path.len(), 0)
+    !path.is_empty() && numbered(path, &[], 1).len() == sehmelir::outline_bytes(path.len(), 0)
 }
 
 #[test]
@@ -177,9 +200,11 @@ fn keeps() {
     tally.assert_just(&[0, 1, 2, 3, 4, 5, 18]);
 }
 
-/// An outline, now and then damaged, now and then with bytes after it.
+/// An outline of either edition, now and then damaged, now and then with bytes
+/// after it.
 pub fn store(maker: &mut Maker, path: &Path) -> Vec<u8> {
-    let mut store = outline(path, maker.grade());
+    let grade = maker.grade();
+    let mut store = of_either_edition(maker, path, grade);
     if maker.chance(50) {
         maker.damage(&mut store);
     }
@@ -240,7 +265,8 @@ fn reaches_past_thin_steps() {
         for vertex in &mut path {
             vertex[2] = maker.pick(&[0, 1, 1, 1, vertex[2]]);
         }
-        let (store, count) = (outline(&path, grade), path.len());
+        let store = of_either_edition(&mut maker, &path, grade);
+        let count = path.len();
         for index in 0..count {
             let reply = reach(&store, index);
             assert_eq!(reply.reply, 0);
@@ -284,7 +310,12 @@ fn replaces_many_times_in_one_store() {
     let mut maker = Maker::new(5);
     for _ in 0..40 {
         let (mut path, grade) = (maker.path(VERTICES), maker.grade());
-        let mut store = outline(&path, grade);
+        let (first, numbers) = (maker.chance(50), maker.numbers(path.len()));
+        let outline = |path: &Path| match first {
+            true => outline(path, grade),
+            false => numbered(path, &numbers, grade),
+        };
+        let mut store = outline(&path);
         store.resize(store.len() + 20_000, 0xEE);
         for _ in 0..30 {
             let index = maker.index(path.len());
@@ -294,7 +325,7 @@ fn replaces_many_times_in_one_store() {
             if reply.reply == 0 {
                 path[index] = vertex;
             }
-            let outline = outline(&path, grade);
+            let outline = outline(&path);
             assert_eq!(store[..outline.len()], outline);
             assert_eq!(read(&store, 3 * path.len()).grade, grade);
         }
@@ -310,19 +341,33 @@ pub const SHORT: [&[[i32; 3]]; 5] = [
     &[[0, 0, 1], [20, 0, 1]],
 ];
 
-/// Where there are edges no changed byte makes another sound outline.
+/// The outline of each edition of a short path, and how many words a vertex has
+/// in it.
+pub fn both_editions(path: &[[i32; 3]]) -> [(Vec<u8>, usize); 2] {
+    let numbers = [411, u32::MAX, 0];
+    [(outline(path, 1), 4), (numbered(path, &numbers, 1), 5)]
+}
+
+/// Where there are edges no changed byte makes another sound outline, but for
+/// those of a point number, which may be any.
 #[test]
 fn every_damaged_byte() {
-    for path in SHORT {
-        let sound = outline(path, 1);
-        let has_edges = sound.len() > 24 + 16 * path.len();
+    for (path, (sound, entry)) in SHORT
+        .map(|path| both_editions(path).map(|one| (path, one)))
+        .concat()
+    {
+        let entries = 20..20 + 4 * entry * path.len();
+        let has_edges = sound.len() > entries.end + 4;
         for at in 0..sound.len() {
+            let number = entry == 5 && entries.contains(&at) && (at - 20) % 20 / 4 == 3;
             for change in [1, 0x10, 0x80, 0xFF] {
                 let mut store = sound.clone();
                 store[at] ^= change;
                 let (read, _) = (read(&store, 3 * path.len()), replace(&store, 0, [0, 0, 1]));
-                assert!(read.reply != 0 || !has_edges);
+                assert!(read.reply != 0 || !has_edges || number);
+                assert!(read.reply == 0 || !number);
                 reach(&store, 0);
+                point_numbers(&store, path.len());
             }
         }
     }
@@ -330,12 +375,15 @@ fn every_damaged_byte() {
 
 #[test]
 fn every_cut_store() {
-    for path in SHORT {
-        let sound = outline(path, 1);
+    for (path, (sound, _)) in SHORT
+        .map(|path| both_editions(path).map(|one| (path, one)))
+        .concat()
+    {
         for length in 0..sound.len() {
             assert_eq!(read(&sound[..length], 3 * path.len()).reply, 6);
             assert_eq!(replace(&sound[..length], 0, [0, 0, 1]).0.reply, 6);
             assert_eq!(reach(&sound[..length], 0).reply, 6);
+            assert_eq!(point_numbers(&sound[..length], path.len()).reply, 6);
         }
     }
 }
@@ -354,7 +402,7 @@ fn every_short_room() {
             let enough = length >= 4 * edges;
             assert_eq!(draw(numbers, 1, length).reply, due(enough));
         }
-        let sound = outline(path, 1);
+        let sound = numbered(path, &[], 1);
         for length in 0..sound.len() + 3 {
             let enough = length >= sound.len();
             assert_eq!(keep(numbers, 1, length).reply, due(enough));
@@ -364,12 +412,14 @@ fn every_short_room() {
             assert_eq!(read(&sound, length).reply == 0, enough);
         }
     }
-    let (point, grown) = (outline(&[[0, 0, 1]], 1), outline(&[[0, 0, 10]], 1));
-    for length in point.len()..grown.len() + 3 {
-        let mut store = point.clone();
-        store.resize(length, 0xEE);
-        let enough = length >= grown.len();
-        assert_eq!(replace(&store, 0, [0, 0, 10]).0.reply == 0, enough);
+    let (points, grown) = (both_editions(&[[0, 0, 1]]), both_editions(&[[0, 0, 10]]));
+    for ((point, _), (grown, _)) in points.into_iter().zip(grown) {
+        for length in point.len()..grown.len() + 3 {
+            let mut store = point.clone();
+            store.resize(length, 0xEE);
+            let enough = length >= grown.len();
+            assert_eq!(replace(&store, 0, [0, 0, 10]).0.reply == 0, enough);
+        }
     }
 }
 
@@ -481,8 +531,10 @@ fn long_paths() {
         let edges = needed(plain::calls::draw(numbers, grade, &mut []));
         assert_eq!(draw(numbers, grade, 4 * edges).reply, 0);
         assert_eq!(draw(numbers, grade, 4 * edges - 1).reply, 5);
-        let mut store = outline(&path, grade);
+        let points = maker.numbers(count);
+        let mut store = numbered(&path, &points, grade);
         assert_eq!(keep(numbers, grade, store.len()).reply, 0);
+        assert_eq!(point_numbers(&store, count).reply, 0);
         assert_eq!(read(&store, numbers.len()).reply, 0);
         store.resize(store.len() + 100_000, 0xEE);
         for index in [0, 1, count / 2, count - 1] {

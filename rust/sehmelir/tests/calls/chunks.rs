@@ -2,7 +2,7 @@
 //! histories of calls on one chunk, damaged tables, refusals with later ones
 //! beside them.
 
-use crate::beside_plain::{answer, replace, Tally};
+use crate::beside_plain::{answer, of_either_edition, replace, Tally};
 use crate::lent;
 use crate::making::Maker;
 use plain::calls::Reply;
@@ -135,7 +135,7 @@ impl History {
         History { maker, chunk }
     }
 
-    /// A short outline of either kind.
+    /// A short outline of either kind and edition.
     fn sound_outline(&mut self) -> Vec<u8> {
         let maker = &mut self.maker;
         loop {
@@ -144,7 +144,8 @@ impl History {
                 let (points, style) = maker.kerb(5);
                 kerb(points.as_flattened(), grade, style)
             } else {
-                outline(maker.path(5).as_flattened(), grade).unwrap_or_default()
+                let path = maker.path(5);
+                of_either_edition(maker, &path, grade)
             };
             if (1..900).contains(&kept.len()) {
                 return kept;
@@ -376,7 +377,7 @@ fn refused_in_order() {
     let mut short = with_table(60, &[[1, 40, 5], [2, 45, 0], [3, 50, 10]]);
     let before = short.clone();
     assert_eq!(add(&mut short, 1, &circle), Reply::new(15, 1));
-    assert_eq!(add(&mut short, 2, &circle), Reply::new(5, 168));
+    assert_eq!(add(&mut short, 2, &circle), Reply::new(5, 172));
     assert_eq!(remove(&mut short, 2), Reply::new(16, 2));
     assert_eq!(short, before);
     // no entries at all, and room for one only
@@ -391,14 +392,14 @@ fn refused_in_order() {
 fn room_exact_and_one_short() {
     let circle = outline(&[0, 0, 10], 1).unwrap();
     for (length, due) in [
-        (196, Reply::new(0, 168)),
-        (195, Reply::new(5, 168)),
-        (197, Reply::new(0, 168)),
+        (200, Reply::new(0, 172)),
+        (199, Reply::new(5, 172)),
+        (201, Reply::new(0, 172)),
     ] {
         // at once, and after compacting: the gap is split by an outline
         let mut chunk = with_table(length, &[[0; 3]; 2]);
         assert_eq!(add(&mut chunk, 9, &circle), due);
-        for before in [0, 1, 50, 167] {
+        for before in [0, 1, 50, 171] {
             let mut chunk = with_table(length + 5, &[[4, 28 + before, 5], [0; 3]]);
             assert_eq!(add(&mut chunk, 9, &circle), due);
         }
@@ -428,8 +429,8 @@ fn as_long_as_it_may_be() {
         let mut chunk = Chunk::over(chunk);
         let added = chunk.add(7, &circle);
         if due.reply == 0 {
-            assert_eq!((added, chunk.find(7)), (Ok(168), Ok(196..364)));
-            assert_eq!(chunk.remove(7), Ok(168));
+            assert_eq!((added, chunk.find(7)), (Ok(172), Ok(196..368)));
+            assert_eq!(chunk.remove(7), Ok(172));
         } else {
             assert_eq!(added, Err(Refusal::Damaged));
             assert_eq!(chunk.find(7), Err(Refusal::Damaged));

@@ -69,10 +69,17 @@ fn drawn((path, counts): Example) -> Vec<[i32; 4]> {
 /// The outline of an example, as it was kept once even where there are no
 /// edges.
 fn kept(example: Example) -> Vec<u8> {
+    laid(example, 1)
+}
+
+/// The outline of an example in an edition; in the second all point numbers are
+/// 0.
+fn laid(example: Example, edition: i32) -> Vec<u8> {
     let ((path, counts), edges) = (example, drawn(example));
-    let mut words = vec![1, 0, 1, path.len() as i32, edges.len() as i32];
+    let mut words = vec![edition, 0, 1, path.len() as i32, edges.len() as i32];
     for (vertex, &count) in path.iter().zip(counts) {
         words.extend(vertex);
+        words.extend((edition == 2).then_some(0));
         words.push(count as i32);
     }
     words.extend(counts.last().map(|&count| count as i32));
@@ -110,7 +117,7 @@ fn draw_gives_the_edges() {
 fn keep_gives_the_outline() {
     for (path, counts) in EXAMPLES {
         let numbers = path.as_flattened();
-        let (expected, edges) = (kept((path, counts)), counts.iter().sum());
+        let (expected, edges) = (laid((path, counts), 2), counts.iter().sum());
         let room = room(expected.len() + 3);
         let (answer, out) = keep(numbers, 1, &room);
         assert_eq!(answer, accepted(path, edges, expected.len()), "{path:?}");
@@ -124,15 +131,15 @@ fn keep_gives_the_outline() {
     }
     assert_eq!(outline(&[], 1).unwrap().len(), 24);
     let circle = outline(&[0, 0, 10], 1).unwrap();
-    assert_eq!(circle[..40], bytes(&[1, 0, 1, 1, 8, 0, 0, 10, 0, 8]));
-    assert_eq!(circle.len(), 168);
+    assert_eq!(circle[..44], bytes(&[2, 0, 1, 1, 8, 0, 0, 10, 0, 0, 8]));
+    assert_eq!(circle.len(), 172);
 }
 
 #[test]
 fn read_gives_the_path() {
-    for (path, counts) in EXAMPLES {
+    for ((path, counts), edition) in EXAMPLES.map(|one| [(one, 1), (one, 2)]).concat() {
         let numbers = path.as_flattened();
-        let mut store = kept((path, counts));
+        let mut store = laid((path, counts), edition);
         store.extend([7; 5]);
         let room = room(numbers.len() + 2);
         let (answer, out) = read(&store, &room);
@@ -147,18 +154,34 @@ fn read_gives_the_path() {
     }
 }
 
+/// The outline of edition 1 of what was kept just now: entries without their
+/// point numbers, which are 0.
+fn as_once(outline: &[u8], vertices: usize) -> Vec<u8> {
+    let (front, bodies) = outline.split_at(20 + 20 * vertices);
+    let mut once = [&[1], &front[1..20]].concat();
+    for entry in front[20..].chunks_exact(20) {
+        once.extend([&entry[..12], &entry[16..]].concat());
+    }
+    [&once, bodies].concat()
+}
+
 /// Each example's vertices, one after another, become (0,0,2): the outline is
-/// that of the changed path, zeros follow where it shrank, then what was there.
+/// that of the changed path in the same edition, zeros follow where it shrank,
+/// then what was there.
 #[test]
 fn replace_gives_the_outline_of_the_changed_path() {
-    for (path, counts) in EXAMPLES {
-        let mut outline_before = kept((path, counts));
+    for ((path, counts), edition) in EXAMPLES.map(|one| [(one, 1), (one, 2)]).concat() {
+        let mut outline_before = laid((path, counts), edition);
         let mut path = path.to_vec();
         for index in 0..path.len() {
             let old = outline_before.len();
             let store = [&outline_before, room(500).as_slice()].concat();
             path[index] = [0, 0, 2];
-            let expected = outline(path.as_flattened(), 1).unwrap();
+            let kept = outline(path.as_flattened(), 1).unwrap();
+            let expected = match edition {
+                1 => as_once(&kept, path.len()),
+                _ => kept,
+            };
             let (answer, out) = replace(&store, index, [0, 0, 2]);
             assert_eq!(answer, Ok(expected.len()), "{path:?}");
             assert_eq!(out[..expected.len()], expected, "{path:?}");
@@ -194,7 +217,7 @@ fn the_limit_is_taken_and_one_more_is_refused() {
     assert_eq!(draw(&[268435456, 0, 10], 1, &room(32)).0, Ok(8));
     let refused = Err(Refusal::Outside(0));
     assert_eq!(draw(&[268435457, 0, 10], 1, &room(32)).0, refused);
-    assert_eq!(keep(&[268435457, 0, 10], 1, &room(168)).0, refused);
+    assert_eq!(keep(&[268435457, 0, 10], 1, &room(172)).0, refused);
 }
 
 /// Document 02, request 6: the smallest outline that was kept under the rule

@@ -224,6 +224,12 @@ pub fn read(store: &[u8], room: &[i32]) -> Outcome<Kept, i32> {
     lend_to_read(store, |store| lend(room, |out| sehmelir::read(store, out)))
 }
 
+pub fn numbers(store: &[u8], room: &[u32]) -> Outcome<usize, u32> {
+    lend_to_read(store, |store| {
+        lend(room, |out| sehmelir::numbers(store, out))
+    })
+}
+
 pub fn replace(store: &[u8], index: usize, [x, y, radius]: [i32; 3]) -> Outcome<usize, u8> {
     lend(store, |store| sehmelir::replace(store, index, x, y, radius))
 }

@@ -7,6 +7,7 @@ mod examples;
 mod kerbs;
 mod lent;
 mod making;
+mod numbers;
 mod oldest;
 mod reasons;
 mod records;

@@ -205,13 +205,25 @@ impl Maker {
         store[at..at + 4].copy_from_slice(&word.to_le_bytes());
     }
 
-    /// Damages a store: a byte, a word that means something, or its length.
+    /// Point numbers for so many vertices: any words, most of them small.
+    pub fn numbers(&mut self, count: usize) -> Vec<u32> {
+        let random = &mut self.random;
+        let mut number = || match random.below(3) {
+            0 => random.between(0, u32::MAX as i64) as u32,
+            _ => random.below(1000) as u32,
+        };
+        (0..count).map(|_| number()).collect()
+    }
+
+    /// Damages a store of a path: a byte, a word that means something, or its
+    /// length.
     pub fn damage(&mut self, store: &mut Vec<u8>) {
         let word = |store: &[u8], place: usize| {
             let at = 4 * place;
             u32::from_le_bytes([store[at], store[at + 1], store[at + 2], store[at + 3]])
         };
         let (vertices, edges) = (word(store, 3), word(store, 4));
+        let entry = 3 + word(store, 0) as u64;
         let random = &mut self.random;
         let (place, word) = match random.below(14) {
             0..4 => {
@@ -221,13 +233,13 @@ impl Maker {
             }
             4 => return store.truncate(random.below(store.len() as u64) as usize),
             5 => return store.truncate(random.pick(&[0, 20, 23, store.len() - 1])),
-            6 => (0, random.pick(&[0, 2, 257, u32::MAX])),
+            6 => (0, random.pick(&[0, 1, 2, 3, 257, u32::MAX])),
             7 => (1, random.pick(&[1, 256, 1 << 31])),
             8 => (2, random.pick(&[0, 1, 2, 8, 9, 257, u32::MAX])),
             9 => (3, random.pick(&[vertices + 1, 0, 4096, 4097, u32::MAX])),
             10 => (4, random.pick(&[edges + 1, edges / 2, 0, u32::MAX])),
             11 | 12 if vertices > 0 => {
-                let place = 5 + 4 * random.below(vertices as u64) + random.below(3);
+                let place = 5 + entry * random.below(vertices as u64) + random.below(3);
                 let past = MOST as u32 + 1;
                 let words = [past, past.wrapping_neg(), 1 << 31, u32::MAX, 0, 1];
                 (place as usize, random.pick(&words))

@@ -2,7 +2,9 @@
 //! call of the archive beside `plain`'s: the same answer, and the same lent
 //! memory afterwards.
 
-use crate::beside_plain::{answer, cases, outline, store, Tally, SHORT, VERTICES};
+use crate::beside_plain::{
+    answer, both_editions, cases, numbered, outline, store, Tally, SHORT, VERTICES,
+};
 use crate::kerbs;
 use crate::lent::{self, room};
 use crate::making::Maker;
@@ -288,16 +290,22 @@ fn every_short_room() {
 
 #[test]
 fn every_damaged_byte_and_every_cut() {
-    for path in SHORT {
-        let sound = outline(path, 1);
+    for (path, (sound, entry)) in SHORT
+        .map(|path| both_editions(path).map(|one| (path, one)))
+        .concat()
+    {
         let count = edges(&sound);
         for at in 0..sound.len() {
+            // a point number may be any
+            let entries = 20..20 + 4 * entry * path.len();
+            let number = entry == 5 && entries.contains(&at) && (at - 20) % 20 / 4 == 3;
             for change in [1, 0x10, 0x80, 0xFF] {
                 let mut store = sound.clone();
                 store[at] ^= change;
                 let reply = explained(&store, 0).reply;
-                assert!(reply != 0 || count == 0);
-                assert_eq!(reply == 10, listed(&store, 5 * count).reply == 0);
+                assert!(reply != 0 || count == 0 || number);
+                let whole = listed(&store, 5 * count).reply == 0;
+                assert_eq!(matches!(reply, 0 | 10), whole);
             }
             assert_eq!(explained(&sound[..at], 0).reply, 6);
             assert_eq!(listed(&sound[..at], 5 * count).reply, 6);
@@ -310,6 +318,7 @@ fn every_damaged_byte_and_every_cut() {
 #[test]
 fn several_faults_at_once() {
     let sound = outline(&[[0, 0, 5], [20, 0, 5]], 1);
+    let second = numbered(&[[0, 0, 5], [20, 0, 5]], &[411, u32::MAX], 1);
     let kerb = kerbs::outline(&[[0, 0], [20, 0]], 1, [5, 0, 0]);
     let with = |store: &[u8], words: &[(usize, u32)]| {
         let mut store = store.to_vec();
@@ -319,7 +328,9 @@ fn several_faults_at_once() {
         store
     };
     let table = [
-        (with(&sound, &[(0, 2), (1, 2), (2, 9)]), (6, 0)),
+        (with(&sound, &[(0, 3), (1, 2), (2, 9)]), (6, 0)),
+        (with(&sound, &[(0, 2), (1, 2), (2, 9)]), (7, 2)),
+        (with(&kerb, &[(0, 2), (2, 9), (5, u32::MAX)]), (6, 0)),
         (sound[..23].to_vec(), (6, 0)),
         (with(&sound, &[(1, 2), (2, 9), (3, 4097)]), (7, 2)),
         (with(&kerb, &[(2, 9), (5, u32::MAX)])[..43].to_vec(), (6, 0)),
@@ -334,7 +345,10 @@ fn several_faults_at_once() {
         (with(&sound, &[(14, 21), (20, 3)]), (8, 56)),
         (with(&kerb, &[(12, 3)]), (8, 48)),
         (kerb.clone(), (12, 1)),
+        (with(&second, &[(12, 268435457), (16, 21)]), (4, 1)),
+        (with(&second, &[(16, 21), (22, 3)]), (8, 64)),
         (sound.clone(), (10, 99)),
+        (second.clone(), (10, 99)),
     ];
     for (store, (reply, number)) in &table {
         assert_eq!(explained(store, 99), Reply::new(*reply, *number));

@@ -2,7 +2,7 @@
 //! each with as many of the later ones as can hold beside it. No refusal
 //! changes lent memory.
 
-use crate::lent::{draw, keep, reach, read, replace, room, Outcome};
+use crate::lent::{draw, keep, numbers as numbers_of, reach, read, replace, room, Outcome};
 use sehmelir::{outline, Refusal};
 use std::error::Error;
 use std::fmt::Debug;
@@ -46,7 +46,7 @@ fn of_paths() {
         (&[0; 3 * 4096], 2, Refusal::WithoutEdges(4096)),
     ];
     for (path, grade, expected) in table {
-        for length in [0, 1, 55, 56, 200] {
+        for length in [0, 1, 63, 64, 200] {
             let (numbers, bytes) = (room(length), room(length));
             assert_refused(draw(path, grade, &numbers), &numbers, expected);
             assert_refused(keep(path, grade, &bytes), &bytes, expected);
@@ -67,7 +67,27 @@ fn of_stores() {
     let table = [
         (store(&[], 0), Refusal::NotOutline),
         (store(&[1, 0, 1, 0, 0], 3), Refusal::NotOutline),
-        (store(&[2, 1, 9, 4097, 0, 0], 0), Refusal::NotOutline),
+        (store(&[3, 2, 9, 4097, 0, 0], 0), Refusal::NotOutline),
+        (store(&[0, 2, 9, 4097, 0, 0], 0), Refusal::NotOutline),
+        (store(&[2, 2, 9, 4097, 0, 0], 0), Refusal::Kind(2)),
+        (
+            store(&[2, 1, 9, 4097, 0, FAR, 2, 2], 12),
+            Refusal::NotOutline,
+        ),
+        (store(&[2, 0, 9, 4097, 0, 0], 0), Refusal::Grade(9)),
+        (store(&[2, 0, 8, 4097, 0, 0], 0), Refusal::TooMany(4097)),
+        (
+            store(&[2, 0, 8, 1, 0, FAR, 0, 0, 7, 0], 3),
+            Refusal::NotOutline,
+        ),
+        (
+            store(&[2, 0, 8, 1, 0, FAR, 0, 0, 7, 0, 9], 0),
+            Refusal::Outside(0),
+        ),
+        (
+            store(&[2, 0, 8, 1, 0, 0, 0, 0, -1, 7, 9], 0),
+            Refusal::NotSound(36),
+        ),
         (store(&[1, 2, 9, 4097, 0, 0], 0), Refusal::Kind(2)),
         (store(&[1, 1, 9, 4097, 0, 0], 19), Refusal::NotOutline),
         (store(&[1, 1, 9, 4097, 0, FAR, 2, 2], 12), Refusal::Grade(9)),
@@ -136,6 +156,8 @@ fn of_stores() {
         for length in [0, 2, 200] {
             let numbers = room(length);
             assert_refused(read(&store, &numbers), &numbers, expected);
+            let words = room(length);
+            assert_refused(numbers_of(&store, &words), &words, expected);
         }
         assert_refused(replace(&store, 7, [FAR, 0, 0]), &store, expected);
         assert_refused(replace(&store, 0, [0, 0, 1]), &store, expected);
@@ -193,25 +215,30 @@ fn of_rooms() {
         assert_refused(draw(&circle, 1, &room), &room, Refusal::NoRoom(8));
     }
     assert_eq!(draw(&circle, 1, &room(32)).0, Ok(8));
-    for length in [0, 1, 167] {
+    for length in [0, 1, 171] {
         let room = room(length);
-        assert_refused(keep(&circle, 1, &room), &room, Refusal::NoRoom(168));
+        assert_refused(keep(&circle, 1, &room), &room, Refusal::NoRoom(172));
     }
-    let (answer, store) = keep(&circle, 1, &room(168));
-    assert_eq!(answer, Ok(168));
+    let (answer, store) = keep(&circle, 1, &room(172));
+    assert_eq!(answer, Ok(172));
     for length in [0, 1, 2] {
         let room = room(length);
         assert_refused(read(&store, &room), &room, Refusal::NoRoom(1));
     }
     let kept = read(&store, &room(3)).0.unwrap();
     assert_eq!((kept.vertices, kept.grade), (1, 1));
-    let point = self::store(&[1, 0, 1, 1, 0, 0, 0, 1, 0, 0], 0);
-    for more in [0, 1, 127] {
-        let store = [&point, room(more).as_slice()].concat();
-        assert_refused(replace(&store, 0, circle), &store, Refusal::NoRoom(168));
+    let once = self::store(&[1, 0, 1, 1, 0, 0, 0, 1, 0, 0], 0);
+    let point = self::store(&[2, 0, 1, 1, 0, 0, 0, 1, 0, 0, 0], 0);
+    for (point, needed) in [(&once, 168), (&point, 172)] {
+        for more in [0, 1, 127] {
+            let store = [point, room(more).as_slice()].concat();
+            assert_refused(replace(&store, 0, circle), &store, Refusal::NoRoom(needed));
+        }
     }
     let grown = [&point, room(128).as_slice()].concat();
-    assert_eq!(replace(&grown, 0, circle), (Ok(168), store));
+    assert_eq!(replace(&grown, 0, circle), (Ok(172), store));
+    let grown = [&once, room(128).as_slice()].concat();
+    assert_eq!(replace(&grown, 0, circle).0, Ok(168));
 }
 
 #[test]
@@ -231,7 +258,7 @@ fn say_why() {
         ),
         (
             Refusal::NotOutline,
-            "the store is too short or not of edition 1",
+            "the store is too short or not of an edition that is read",
         ),
         (Refusal::Kind(2), "kind 2 is neither 0 nor 1"),
         (

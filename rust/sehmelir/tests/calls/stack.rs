@@ -2,7 +2,7 @@
 
 use sehmelir::{
     draw, draw_kerb, draw_records, explain, keep, keep_kerb, keep_records, kerb_bytes, list,
-    outline, outline_bytes, reach, read, replace,
+    numbers, outline, outline_bytes, reach, read, replace,
 };
 use sehmelir::{Chunk, Join, Refusal, Style, Vertex};
 use std::thread::Builder;
@@ -13,8 +13,8 @@ const FOR_DRAW: usize = (528 + 32) * 1024;
 /// The same of draw_records.
 const FOR_RECORDS: usize = sehmelir::STACK + 32 * 1024;
 
-/// What keep, keep_kerb, keep_records, read, replace, reach, explain, list and a
-/// chunk's add may take, and as much for the thread.
+/// What keep, keep_kerb, keep_records, read, numbers, replace, reach, explain,
+/// list and a chunk's add may take, and as much for the thread.
 const FOR_OTHERS: usize = (256 + 32) * 1024;
 
 /// What a chunk's find, remove and compact may take, and as much for the
@@ -41,17 +41,20 @@ fn is_at_most_what_is_said() {
             edges
         });
         on_a_stack_of(FOR_OTHERS, move || {
-            let bytes = 24 + 16 * vertices + 16 * edges;
+            let bytes = outline_bytes(vertices, edges);
             let mut store = vec![0; bytes + 30_000];
             assert_eq!(keep(&path, grade, &mut store), Ok(bytes));
             assert!(replace(&mut store, vertices / 2, 7, 8, 9).is_ok());
-            let mut numbers = vec![0; path.len()];
-            let kept = read(&store, &mut numbers).unwrap();
+            let mut out = vec![0; path.len()];
+            let kept = read(&store, &mut out).unwrap();
             assert_eq!((kept.vertices, kept.grade), (vertices, grade));
+            let mut points = vec![7; vertices];
+            assert_eq!(numbers(&store, &mut points), Ok(vertices));
+            assert_eq!(points, vec![0; vertices]);
             assert_eq!(reach(&store, 0), Ok(2));
             assert!(explain(&store, edges / 2).is_ok());
-            let mut numbers = vec![0; 5 * (edges + 2_000)];
-            assert!(list(&store, &mut numbers).is_ok());
+            let mut out = vec![0; 5 * (edges + 2_000)];
+            assert!(list(&store, &mut out).is_ok());
         });
     }
 }
@@ -97,7 +100,7 @@ fn of_chunks_is_at_most_what_is_said() {
     });
     on_a_stack_of(FOR_CHUNKS, move || {
         assert!(chunk.find(0).is_ok() && chunk.find(4001).is_err());
-        assert_eq!(chunk.remove(0), Ok(168));
+        assert_eq!(chunk.remove(0), Ok(172));
         assert!(chunk.compact().is_ok());
     });
 }

@@ -2,7 +2,7 @@
 use mathlib.Core.Path.{ap}
 use borrow.Author.Needs.{needs}
 use native.Mathlib.Omega.{arith}
-use Rattle.runs.proofs.Laws.{runs-as}
+use Rattle.runs.proofs.Laws.{runs-as, runs-to}
 use Rattle.paths.proofs.Most.{emitted-most}
 use Rattle.outline.specs.Outlines.{entryOf}
 use Rattle.outline.proofs.OwnNumbers.{own-room, own-small, own-count, own-inside, own-words}
@@ -21,26 +21,29 @@ same-entry-requires c κs = search needs
 same-numbers-requires : tie.Need-same-numbers-requires
 same-numbers-requires c κs = (own-inside (emitted-most (c .before .before .before .before .before .before .before .before .args .t) (c .before .before .before .before .before .before .before .before .args .c .walk) (c .before .before .before .before .before .before .before .before .args .v)) (c .before .before .before .before .step .ensures .made) (c .before .before .before .before .before .before .before .before .pre .0 .3), omega (arith, own-small (emitted-most (c .before .before .before .before .before .before .before .before .args .t) (c .before .before .before .before .before .before .before .before .args .c .walk) (c .before .before .before .before .before .before .before .before .args .v)) (c .before .before .before .before .step .ensures .made), c .before .before .before .before .before .before .before .before .pre .1 .1))
 
+entry-bytes-requires : tie.Need-entry-bytes-requires
+entry-bytes-requires c κs = search needs
+
 add-entry : tie.Need-add-entry
-add-entry c = search needs
+add-entry c = omega (arith, c .before .before .before .before .before .before .before .before .before .before .before .pre .1 .0, c .before .entry-bytes .ensures)
 
 mul-at : tie.Need-mul-at
-mul-at c = omega (arith, own-small (emitted-most (c .before .before .before .before .before .before .before .before .before .before .args .t) (c .before .before .before .before .before .before .before .before .before .before .args .c .walk) (c .before .before .before .before .before .before .before .before .before .before .args .v)) (c .before .before .before .before .before .before .step .ensures .made))
+mul-at c = omega (arith, own-small (emitted-most (c .before .before .before .before .before .before .before .before .before .before .before .args .t) (c .before .before .before .before .before .before .before .before .before .before .before .args .c .walk) (c .before .before .before .before .before .before .before .before .before .before .before .args .v)) (c .before .before .before .before .before .before .before .step .ensures .made))
 
 add-at : tie.Need-add-at
-add-at c = omega (arith, own-small (emitted-most (c .before .before .before .before .before .before .before .before .before .before .before .args .t) (c .before .before .before .before .before .before .before .before .before .before .before .args .c .walk) (c .before .before .before .before .before .before .before .before .before .before .before .args .v)) (c .before .before .before .before .before .before .before .step .ensures .made), c .before .before .before .before .before .before .before .before .before .before .before .pre .1 .1)
+add-at c = omega (arith, own-small (emitted-most (c .before .before .before .before .before .before .before .before .before .before .before .before .args .t) (c .before .before .before .before .before .before .before .before .before .before .before .before .args .c .walk) (c .before .before .before .before .before .before .before .before .before .before .before .before .args .v)) (c .before .before .before .before .before .before .before .before .step .ensures .made), c .before .before .before .before .before .before .before .before .before .before .before .before .pre .1 .1)
 
 same-length : tie.Need-same-length
 same-length c = search needs
 
 returns : tie.Need-returns
 returns c =
-    let m = emitted-most (c .before .before .before .before .before .before .before .before .before .before .before .args .t) (c .before .before .before .before .before .before .before .before .before .before .before .args .c .walk) (c .before .before .before .before .before .before .before .before .before .before .before .args .v) in
-    let p = c .before .before .before .before .before .before .before .step .ensures in
+    let m = emitted-most (c .before .before .before .before .before .before .before .before .before .before .before .before .args .t) (c .before .before .before .before .before .before .before .before .before .before .before .before .args .c .walk) (c .before .before .before .before .before .before .before .before .before .before .before .before .args .v) in
+    let p = c .before .before .before .before .before .before .before .before .step .ensures in
     record {
       walk = p .walk;
-      table = runs-as (ap (entryOf (c .before .before .before .before .before .before .before .before .before .before .before .args .v)) (own-count m (p .made))) (c .before .before .before .before .same-entry .ensures);
-      bodies = runs-as (own-words m (p .made) (c .before .before .before .before .before .before .before .before .before .before .before .pre .0 .3)) (c .before .before .same-numbers .ensures);
+      table = runs-as (ap (entryOf (c .before .before .before .before .before .before .before .before .before .before .before .before .args .edition) (c .before .before .before .before .before .before .before .before .before .before .before .before .args .v) (c .before .before .before .before .before .before .before .before .before .before .before .before .args .post)) (own-count m (p .made))) (runs-to (omega (arith, c .before .before .entry-bytes .ensures)) (c .before .before .before .before .before .same-entry .ensures));
+      bodies = runs-as (own-words m (p .made) (c .before .before .before .before .before .before .before .before .before .before .before .before .pre .0 .3)) (c .before .before .before .same-numbers .ensures);
     }
 
 pub compare-step-spec : {M : Type 1} → statement M
@@ -51,6 +54,7 @@ compare-step-spec =
     cast-same-entry
     same-entry-requires
     same-numbers-requires
+    entry-bytes-requires
     add-entry
     mul-at
     add-at

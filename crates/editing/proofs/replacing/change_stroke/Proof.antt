@@ -7,14 +7,14 @@ use Rattle.editing.proofs.replacing.change_stroke.Tie as tie
 enum-told : tie.Need-enum-told
 enum-told c = search needs
 
-enum-told-2 : tie.Need-enum-told-2
-enum-told-2 c = search needs
+enum-known-form : tie.Need-enum-known-form
+enum-known-form c = search needs
 
 change-requires : tie.Need-change-requires
-change-requires c κs = (known (c .before .before .before .before .before .before .pre .0) (c .before .before .before .enum-told2 .given .1), c .before .before .before .before .before .before .pre .1)
+change-requires c κs = (known (c .before .before .before .before .before .before .before .before .before .pre .0) (c .before .before .before .before .before .form .given .1), c .before .before .before .before .before .before .before .before .before .pre .1, c .before .before .before .before .before .before .before .before .before .pre .2)
 
 returns : tie.Need-returns
-returns c = replace-other (c .before .before .before .pre .0) (c .before .before .before .args .index) (c .before .before .before .args .v) (c .enum-told .given .1)
+returns c = replace-other (c .before .before .before .before .pre .0) (c .before .before .before .before .args .index) (c .before .before .before .before .args .v) (c .enum-told .given .1)
 
 same-length : tie.Need-same-length
 same-length c = search needs
@@ -25,6 +25,9 @@ same-length-2 c = search needs
 same-length-3 : tie.Need-same-length-3
 same-length-3 c = search needs
 
+same-length-4 : tie.Need-same-length-4
+same-length-4 c = search needs
+
 returns-2 : tie.Need-returns-2
 returns-2 c = search needs
 
@@ -33,10 +36,11 @@ change-stroke-spec =
     tie.close
     (tie.spec
     enum-told
-    enum-told-2
+    enum-known-form
     change-requires
     returns
     same-length
     same-length-2
     same-length-3
+    same-length-4
     returns-2)

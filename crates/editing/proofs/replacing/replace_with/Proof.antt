@@ -14,7 +14,7 @@ enum-known-checked-2 : tie.Need-enum-known-checked-2
 enum-known-checked-2 c = search needs
 
 change-stroke-requires : tie.Need-change-stroke-requires
-change-stroke-requires c κs = (passed (c .before .before .before .before .checked2 .given .1) (c .before .before .before .before .before .before .before .before .check .ensures), search needs)
+change-stroke-requires c κs = (passed (c .before .before .before .before .before .checked2 .given .1) (c .before .before .before .before .before .before .before .before .before .check .ensures), search needs, search needs)
 
 same-length : tie.Need-same-length
 same-length c = search needs
@@ -37,6 +37,9 @@ same-length-5 c = search needs
 same-length-6 : tie.Need-same-length-6
 same-length-6 c = search needs
 
+same-length-7 : tie.Need-same-length-7
+same-length-7 c = search needs
+
 returns-2 : tie.Need-returns-2
 returns-2 c = search needs
 
@@ -55,4 +58,5 @@ replace-with-spec =
     same-length-4
     same-length-5
     same-length-6
+    same-length-7
     returns-2)

@@ -13,7 +13,7 @@ cast-put-header : tie.Need-cast-put-header
 cast-put-header c = search needs
 
 cast-put-header-2 : tie.Need-cast-put-header-2
-cast-put-header-2 c = omega (arith, c .before .before .pre .1, few-edges Stroke (c .before .before .args .grade) (pathOf (c .before .before .args .path .now)) (c .before .before .pre .0 .1 .count))
+cast-put-header-2 c = omega (arith, c .before .before .before .pre .1, few-edges (Stroke (c .before .before .before .args .edition)) (c .before .before .before .args .grade) (pathOf (c .before .before .before .args .path .now)) (c .before .before .before .pre .0 .1 .count))
 
 put-header-requires : tie.Need-put-header-requires
 put-header-requires c κs = search needs
@@ -28,7 +28,7 @@ same-length-2 : tie.Need-same-length-2
 same-length-2 c = search needs
 
 returns : tie.Need-returns
-returns c = outline-written _ _ (c .before .before .before .before .before .before .before .before .before .before .before .pre .0 .0) (c .before .before .before .before .before .before .before .before .before .before .before .pre .1) refl (c .before .before .before .before .before .before .before .before .put-header .ensures) (c .before .before .before .fill .ensures)
+returns c = outline-written _ _ _ _ (c .before .before .before .before .before .before .before .before .before .before .before .before .pre .0 .0) (c .before .before .before .before .before .before .before .before .before .before .before .before .pre .1) refl (c .before .before .before .before .before .before .before .before .put-header .ensures) (c .before .before .before .fill .ensures)
 
 pub outline-spec : {M : Type 1} → statement M
 outline-spec =

@@ -18,7 +18,7 @@ same-length-2 : tie.Need-same-length-2
 same-length-2 c = search needs
 
 returns : tie.Need-returns
-returns c = write-done Stroke _ _ _ _ (c .before .before .before .before .before .before .before .outline .ensures) (c .before .before .clear .ensures) (c .before .before .before .before .before .before .before .before .before .before .before .pre .1 .1) (c .before .before .before .before .before .before .before .before .before .before .before .pre .1 .2)
+returns c = write-done (Stroke (c .before .before .before .before .before .before .before .before .before .before .before .before .args .edition)) _ _ _ _ _ (c .before .before .before .before .before .before .before .outline .ensures) (c .before .before .clear .ensures) (c .before .before .before .before .before .before .before .before .before .before .before .before .pre .1 .1) (c .before .before .before .before .before .before .before .before .before .before .before .before .pre .1 .2)
 
 pub write-spec : {M : Type 1} → statement M
 write-spec = tie.close (tie.spec outline-requires clear-requires same-length same-length-2 returns)

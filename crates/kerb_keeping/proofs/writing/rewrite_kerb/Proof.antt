@@ -1,5 +1,6 @@
 -- `kerb_keeping::writing::rewrite_kerb` meets its contract: the rows of writing in their order, and then the outline. Assumes nothing.
 use mathlib.Core.Path.{sym, _∙_}
+use mathlib.Core.List.{[]}
 use borrow.Author.Needs.{needs}
 use native.Mathlib.Omega.{arith}
 use Rattle.kerb_paths.specs.Points.{kerbPath}
@@ -19,13 +20,13 @@ without-edges-requires : tie.Need-without-edges-requires
 without-edges-requires c κs = search needs
 
 returns : tie.Need-returns
-returns c = rewrite-empty (Kerb (c .before .before .before .before .before .args .y)) (c .before .before .before .before .before .args .grade) (kerbPath (c .before .before .before .before .before .args .y .radius) (c .before .before .before .before .before .args .points .now)) _ _ (c .before .before .before .before .before .pre .0) (c .before .before .before .count-kerb .ensures) (sym (c .before .without-edges .ensures) ∙ c .if1 .taken)
+returns c = rewrite-empty (Kerb (c .before .before .before .before .before .args .y)) (c .before .before .before .before .before .args .grade) [] (kerbPath (c .before .before .before .before .before .args .y .radius) (c .before .before .before .before .before .args .points .now)) _ _ (c .before .before .before .before .before .pre .0) (c .before .before .before .count-kerb .ensures) (sym (c .before .without-edges .ensures) ∙ c .if1 .taken)
 
 returns-2 : tie.Need-returns-2
-returns-2 c = rewrite-short (Kerb (c .before .before .before .before .before .before .args .y)) (c .before .before .before .before .before .before .args .grade) (kerbPath (c .before .before .before .before .before .before .args .y .radius) (c .before .before .before .before .before .before .args .points .now)) _ _ (c .before .before .before .before .before .before .pre .0) (c .before .before .before .before .count-kerb .ensures) (sym (c .before .before .without-edges .ensures) ∙ c .before .if1 .left) (needed-is (Kerb (c .before .before .before .before .before .before .args .y)) (c .before .before .before .before .before .before .args .grade) (kerbPath (c .before .before .before .before .before .before .args .y .radius) (c .before .before .before .before .before .before .args .points .now)) (c .before .before .before .before .before .before .pre .0) (c .before .before .before .before .count-kerb .ensures) (c .before .before .before .whole-length .ensures)) (c .if2 .taken)
+returns-2 c = rewrite-short (Kerb (c .before .before .before .before .before .before .args .y)) (c .before .before .before .before .before .before .args .grade) [] (kerbPath (c .before .before .before .before .before .before .args .y .radius) (c .before .before .before .before .before .before .args .points .now)) _ _ (c .before .before .before .before .before .before .pre .0) (c .before .before .before .before .count-kerb .ensures) (sym (c .before .before .without-edges .ensures) ∙ c .before .if1 .left) (needed-is (Kerb (c .before .before .before .before .before .before .args .y)) (c .before .before .before .before .before .before .args .grade) [] (kerbPath (c .before .before .before .before .before .before .args .y .radius) (c .before .before .before .before .before .before .args .points .now)) (c .before .before .before .before .before .before .pre .0) (c .before .before .before .before .count-kerb .ensures) (c .before .before .before .whole-length .ensures)) (c .if2 .taken)
 
 write-kerb-requires : tie.Need-write-kerb-requires
-write-kerb-requires c κs = ((c .before .before .before .before .before .before .before .before .pre .0, c .before .before .before .before .before .before .before .before .pre .1, c .before .before .before .before .before .before .before .before .pre .2, c .before .before .before .before .before .before .before .before .pre .3), (c .before .before .before .before .before .before .count-kerb .ensures, omega (arith, needed-is (Kerb (c .before .before .before .before .before .before .before .before .args .y)) (c .before .before .before .before .before .before .before .before .args .grade) (kerbPath (c .before .before .before .before .before .before .before .before .args .y .radius) (c .before .before .before .before .before .before .before .before .args .points .now)) (c .before .before .before .before .before .before .before .before .pre .0) (c .before .before .before .before .before .before .count-kerb .ensures) (c .before .before .before .before .before .whole-length .ensures), c .before .before .if2 .left), c .before .before .before .before .before .before .before .before .pre .4))
+write-kerb-requires c κs = ((c .before .before .before .before .before .before .before .before .pre .0, c .before .before .before .before .before .before .before .before .pre .1, c .before .before .before .before .before .before .before .before .pre .2, c .before .before .before .before .before .before .before .before .pre .3), (c .before .before .before .before .before .before .count-kerb .ensures, omega (arith, needed-is (Kerb (c .before .before .before .before .before .before .before .before .args .y)) (c .before .before .before .before .before .before .before .before .args .grade) [] (kerbPath (c .before .before .before .before .before .before .before .before .args .y .radius) (c .before .before .before .before .before .before .before .before .args .points .now)) (c .before .before .before .before .before .before .before .before .pre .0) (c .before .before .before .before .before .before .count-kerb .ensures) (c .before .before .before .before .before .whole-length .ensures), c .before .before .if2 .left), c .before .before .before .before .before .before .before .before .pre .4))
 
 same-length : tie.Need-same-length
 same-length c = search needs
@@ -34,7 +35,7 @@ same-length-2 : tie.Need-same-length-2
 same-length-2 c = search needs
 
 returns-3 : tie.Need-returns-3
-returns-3 c = rewrite-done (Kerb (c .before .before .before .before .before .before .before .before .before .before .before .before .args .y)) (c .before .before .before .before .before .before .before .before .before .before .before .before .args .grade) (kerbPath (c .before .before .before .before .before .before .before .before .before .before .before .before .args .y .radius) (c .before .before .before .before .before .before .before .before .before .before .before .before .args .points .now)) _ _ (c .before .before .before .before .before .before .before .before .before .before .before .before .pre .0) (c .before .before .before .before .before .before .before .before .before .before .count-kerb .ensures) (sym (c .before .before .before .before .before .before .before .before .without-edges .ensures) ∙ c .before .before .before .before .before .before .before .if1 .left) (omega (arith, needed-is (Kerb (c .before .before .before .before .before .before .before .before .before .before .before .before .args .y)) (c .before .before .before .before .before .before .before .before .before .before .before .before .args .grade) (kerbPath (c .before .before .before .before .before .before .before .before .before .before .before .before .args .y .radius) (c .before .before .before .before .before .before .before .before .before .before .before .before .args .points .now)) (c .before .before .before .before .before .before .before .before .before .before .before .before .pre .0) (c .before .before .before .before .before .before .before .before .before .before .count-kerb .ensures) (c .before .before .before .before .before .before .before .before .before .whole-length .ensures), c .before .before .before .before .before .before .if2 .left)) (c .before .before .before .write-kerb .ensures)
+returns-3 c = rewrite-done (Kerb (c .before .before .before .before .before .before .before .before .before .before .before .before .args .y)) (c .before .before .before .before .before .before .before .before .before .before .before .before .args .grade) [] (kerbPath (c .before .before .before .before .before .before .before .before .before .before .before .before .args .y .radius) (c .before .before .before .before .before .before .before .before .before .before .before .before .args .points .now)) _ _ (c .before .before .before .before .before .before .before .before .before .before .before .before .pre .0) (c .before .before .before .before .before .before .before .before .before .before .count-kerb .ensures) (sym (c .before .before .before .before .before .before .before .before .without-edges .ensures) ∙ c .before .before .before .before .before .before .before .if1 .left) (omega (arith, needed-is (Kerb (c .before .before .before .before .before .before .before .before .before .before .before .before .args .y)) (c .before .before .before .before .before .before .before .before .before .before .before .before .args .grade) [] (kerbPath (c .before .before .before .before .before .before .before .before .before .before .before .before .args .y .radius) (c .before .before .before .before .before .before .before .before .before .before .before .before .args .points .now)) (c .before .before .before .before .before .before .before .before .before .before .before .before .pre .0) (c .before .before .before .before .before .before .before .before .before .before .count-kerb .ensures) (c .before .before .before .before .before .before .before .before .before .whole-length .ensures), c .before .before .before .before .before .before .if2 .left)) (c .before .before .before .write-kerb .ensures)
 
 pub rewrite-kerb-spec : {M : Type 1} → statement M
 rewrite-kerb-spec =

@@ -1,4 +1,5 @@
 -- `kerb_keeping::writing::write_kerb` meets its contract: the outline, and zeros from its end on. Assumes nothing.
+use mathlib.Core.List.{[]}
 use borrow.Author.Needs.{needs}
 use Rattle.kerb_paths.specs.Points.{kerbPath}
 use Rattle.outline.specs.declared.Form.the-variants.{Kerb}
@@ -19,7 +20,7 @@ same-length-2 : tie.Need-same-length-2
 same-length-2 c = search needs
 
 returns : tie.Need-returns
-returns c = write-done (Kerb (c .before .before .before .before .before .before .before .before .before .before .before .args .y)) (c .before .before .before .before .before .before .before .before .before .before .before .args .grade) (kerbPath (c .before .before .before .before .before .before .before .before .before .before .before .args .y .radius) (c .before .before .before .before .before .before .before .before .before .before .before .args .points .now)) _ _ (c .before .before .before .before .before .before .before .kerb-outline .ensures) (c .before .before .clear .ensures) (c .before .before .before .before .before .before .before .before .before .before .before .pre .1 .1) (c .before .before .before .before .before .before .before .before .before .before .before .pre .1 .2)
+returns c = write-done (Kerb (c .before .before .before .before .before .before .before .before .before .before .before .args .y)) (c .before .before .before .before .before .before .before .before .before .before .before .args .grade) [] (kerbPath (c .before .before .before .before .before .before .before .before .before .before .before .args .y .radius) (c .before .before .before .before .before .before .before .before .before .before .before .args .points .now)) _ _ (c .before .before .before .before .before .before .before .kerb-outline .ensures) (c .before .before .clear .ensures) (c .before .before .before .before .before .before .before .before .before .before .before .pre .1 .1) (c .before .before .before .before .before .before .before .before .before .before .before .pre .1 .2)
 
 pub write-kerb-spec : {M : Type 1} → statement M
 write-kerb-spec =
