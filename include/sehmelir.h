@@ -7,8 +7,10 @@
  *
  * A PATH is lent as 32-bit numbers, three for each vertex: x, y, radius.
  * x and y go from -268,435,456 to 268,435,456, the radius from 0 to
- * 268,435,456, and there are 0 to 4,096 vertices. The GRADE, 1 to 8, says how
- * finely arcs are drawn; 8 is the finest.
+ * 268,435,456, and there are 0 to 4,096 vertices. The GRADE, 2 to 8, says how
+ * finely arcs are drawn; 8 is the finest. Grade 1 is retired: outlines of it are
+ * read, explained and listed as before, and nothing is drawn, kept or replaced
+ * at it any more; sehmelir_convert redraws them.
  *
  * A KERB is a line of one width, lent as 32-bit numbers, two for each vertex:
  * x, y. Beside them stand its STYLE: radius, from 0 to 268,435,456; join, 0 for
@@ -57,34 +59,37 @@
  * Lent memory, for all calls:
  *
  * - Lengths count elements: int32_t in a path or in edges, uint32_t in point
- *   numbers, float in the oldest chunks, size_t in a list of reasons, bytes in a
- *   store or a chunk. Of vertex records it is the records that are counted.
+ *   numbers or in a list of differences, float in the oldest chunks, size_t in a
+ *   list of reasons, bytes in a store or a chunk. Of vertex records it is the
+ *   records that are counted.
  * - A pointer is never null and is aligned for its type, even where the length
  *   is 0. Where there is nothing to lend, pass the address of any variable of
  *   the type, and 0:
  *
  *       int32_t none = 0;
  *       struct sehmelir_reply needed =
- *           sehmelir_draw(path, path_len, 1, &none, 0);
+ *           sehmelir_draw(path, path_len, 2, &none, 0);
  *
  *   Room of length 0 is allowed, and is the way to ask how much is needed:
  *   reply 5 comes with the number.
- * - Two pieces of memory lent to one call must not overlap, and nothing else
- *   may write them, or read what the call writes, while it runs.
+ * - Two pieces of memory lent to one call must not overlap, but for the two that
+ *   sehmelir_side only reads, and nothing else may write them, or read what the
+ *   call writes, while it runs.
  * - After a refusal (any reply but 0) no lent memory has changed.
  * - After reply 0 the result stands at the front of the memory it was lent,
  *   and the memory past the result is as it was, but for the zeros after a
- *   replaced outline that shrank (see sehmelir_replace). What the calls of a
- *   chunk leave in it is said with each.
+ *   replaced or converted outline that shrank (see sehmelir_replace). What the
+ *   calls of a chunk leave in it is said with each.
  *
  * The calls allocate nothing, keep nothing between calls, and may run in
  * several threads at once. On the stack sehmelir_draw and sehmelir_draw_kerb
- * take up to 528 KiB, sehmelir_draw_records up to 584 KiB, sehmelir_keep,
+ * take up to 528 KiB, sehmelir_draw_records up to 608 KiB, sehmelir_keep,
  * sehmelir_keep_kerb, sehmelir_keep_records, sehmelir_read, sehmelir_numbers,
- * sehmelir_replace, sehmelir_reach, sehmelir_explain, sehmelir_list and
- * sehmelir_chunk_add up to 256 KiB, and sehmelir_chunk_find,
- * sehmelir_chunk_remove and sehmelir_chunk_compact up to 32 KiB, so a thread
- * that calls them needs more than that; the others take below 1 KiB.
+ * sehmelir_replace, sehmelir_convert, sehmelir_reach, sehmelir_side,
+ * sehmelir_explain, sehmelir_list, sehmelir_salvage and sehmelir_chunk_add up to
+ * 256 KiB, and sehmelir_chunk_find, sehmelir_chunk_remove and
+ * sehmelir_chunk_compact up to 32 KiB, so a thread that calls them needs more
+ * than that; the others take below 1 KiB.
  *
  * It is proved of each call that its reply and all lent memory afterwards are
  * what the rules give. The proof rests on memory being lent as said above.
@@ -92,6 +97,7 @@
 #ifndef SEHMELIR_H
 #define SEHMELIR_H
 
+#include <stdbool.h>
 #include <stddef.h>
 #include <stdint.h>
 
@@ -107,11 +113,11 @@ extern "C" {
 #define SEHMELIR_LEAST_COORDINATE (-268435456)
 #define SEHMELIR_MOST_COORDINATE 268435456
 #define SEHMELIR_MOST_RADIUS 268435456
-#define SEHMELIR_LEAST_GRADE 1
+#define SEHMELIR_LEAST_GRADE 2 /* of what is drawn; 1 of what is read */
 #define SEHMELIR_MOST_GRADE 8
 
 /* The bytes of stack that a call takes at most. */
-#define SEHMELIR_STACK_BYTES (584 * 1024)
+#define SEHMELIR_STACK_BYTES (608 * 1024)
 
 /* The bytes of an outline with so many vertices and edges, in edition 2. */
 #define SEHMELIR_OUTLINE_BYTES(vertices, edges)                                \
@@ -134,7 +140,8 @@ enum sehmelir_reply_number {
     SEHMELIR_DONE = 0,          /* done */
     SEHMELIR_UNEVEN = 1,        /* the numbers lent are no whole vertices */
     SEHMELIR_TOO_MANY = 2,      /* above 4,096 vertices */
-    SEHMELIR_GRADE = 3,         /* the grade is not 1 to 8 */
+    SEHMELIR_GRADE = 3,         /* the grade is not 2 to 8, or not 1 to 8
+                                   where an outline is read */
     SEHMELIR_OUTSIDE = 4,       /* a vertex lies outside the limits */
     SEHMELIR_NO_ROOM = 5,       /* the result is longer than the room lent */
     SEHMELIR_NOT_OUTLINE = 6,   /* the store is too short, or its edition is
@@ -150,7 +157,8 @@ enum sehmelir_reply_number {
     SEHMELIR_KEY_THERE = 15,    /* the key is in the chunk already */
     SEHMELIR_KEY_MISSING = 16,  /* the key is not in the chunk */
     SEHMELIR_TABLE_FULL = 17,   /* all entries of the chunk are in use */
-    SEHMELIR_WITHOUT_EDGES = 18 /* the path has vertices and no edges */
+    SEHMELIR_WITHOUT_EDGES = 18, /* the path has vertices and no edges */
+    SEHMELIR_NO_LIST_ROOM = 19  /* the list is longer than the room lent */
 };
 
 /* What a call answers. */
@@ -179,7 +187,7 @@ struct sehmelir_path {
  *
  *     1 SEHMELIR_UNEVEN       path_len is not a multiple of three
  *                             number: path_len
- *     3 SEHMELIR_GRADE        the grade is not 1 to 8
+ *     3 SEHMELIR_GRADE        the grade is not 2 to 8
  *                             number: the grade
  *     2 SEHMELIR_TOO_MANY     there are above 4,096 vertices
  *                             number: the vertices
@@ -208,7 +216,7 @@ struct sehmelir_reply sehmelir_draw(const int32_t *path, size_t path_len,
  *
  *     1 SEHMELIR_UNEVEN       path_len is not a multiple of three
  *                             number: path_len
- *     3 SEHMELIR_GRADE        the grade is not 1 to 8
+ *     3 SEHMELIR_GRADE        the grade is not 2 to 8
  *                             number: the grade
  *     2 SEHMELIR_TOO_MANY     there are above 4,096 vertices
  *                             number: the vertices
@@ -237,7 +245,7 @@ struct sehmelir_reply sehmelir_keep(const int32_t *path, size_t path_len,
  *
  *     1 SEHMELIR_UNEVEN       points_len is odd
  *                             number: points_len
- *     3 SEHMELIR_GRADE        the grade is not 1 to 8
+ *     3 SEHMELIR_GRADE        the grade is not 2 to 8
  *                             number: the grade
  *    11 SEHMELIR_STYLE_WORD   radius is above 268,435,456, or join or closed is
  *                             neither 0 nor 1
@@ -270,7 +278,7 @@ struct sehmelir_reply sehmelir_draw_kerb(const int32_t *points,
  *
  *     1 SEHMELIR_UNEVEN       points_len is odd
  *                             number: points_len
- *     3 SEHMELIR_GRADE        the grade is not 1 to 8
+ *     3 SEHMELIR_GRADE        the grade is not 2 to 8
  *                             number: the grade
  *    11 SEHMELIR_STYLE_WORD   radius is above 268,435,456, or join or closed is
  *                             neither 0 nor 1
@@ -396,6 +404,8 @@ struct sehmelir_reply sehmelir_numbers(const uint8_t *store, size_t store_len,
  *                             number: the index of the first byte that differs
  *    12 SEHMELIR_OTHER_KIND   the outline is of a kerb
  *                             number: its kind, 1
+ *     3 SEHMELIR_GRADE        the outline is of grade 1
+ *                             number: that grade, 1
  *     9 SEHMELIR_NO_VERTEX    the index is not below the vertices
  *                             number: the index
  *     4 SEHMELIR_OUTSIDE      the new vertex lies outside the limits
@@ -752,6 +762,64 @@ struct sehmelir_reply sehmelir_chunk_remove(uint8_t *chunk, size_t chunk_len,
 struct sehmelir_reply sehmelir_chunk_compact(uint8_t *chunk, size_t chunk_len);
 
 /*
+ * Side by side: of two sound outlines of paths, one from before an edit and one
+ * from after it, the body of a vertex as a part of the chosen one. Where `later`
+ * is true that is the later one, `after`, else the earlier one, `before`; offset
+ * and length count its bytes. The body of a vertex is the edges that are drawn on
+ * reaching it; of as many vertices as the chosen outline has, the body of that
+ * number is the closing one, the edges drawn at the end. An empty body is a part
+ * of length 0.
+ *
+ * The first of these that applies is the reply:
+ *
+ *     6, 7, 6, 3, 11, 2, 6, 4, 8
+ *                             those of sehmelir_read but 5, in their order, of
+ *                             the earlier outline
+ *     6, 7, 6, 3, 11, 2, 6, 4, 8
+ *                             the same of the later one
+ *    12 SEHMELIR_OTHER_KIND   either outline is of a kerb
+ *                             number: its kind, 1
+ *     9 SEHMELIR_NO_VERTEX    the number is above the vertices of the chosen
+ *                             outline
+ *                             number: that number
+ *     0 SEHMELIR_DONE         the body stands at `offset`, in `length` bytes, 16
+ *                             for each edge
+ *                             number: its edges
+ *
+ * Both stores are only read. Takes up to 256 KiB of stack.
+ */
+struct sehmelir_part sehmelir_side(const uint8_t *before, size_t before_len,
+                                   const uint8_t *after, size_t after_len,
+                                   bool later, size_t vertex);
+
+/*
+ * Converts a sound outline, of a path or of a kerb, to another grade: the store
+ * then holds what its vertices, point numbers and style give at that grade, in the
+ * same edition. That is, byte for byte, what keeping writes of them in that
+ * edition. Outlines of grade 1 are taken, and those without edges, as they were
+ * kept once.
+ *
+ * The room is the whole store, as in sehmelir_replace: the new outline may reach
+ * up to store_len, and where it is shorter than the old one the bytes from its
+ * end up to the old end become 0. All bytes past both are as they were.
+ *
+ * The first of these that applies is the reply:
+ *
+ *     6, 7, 6, 3, 11, 2, 6, 4, 8
+ *                             those of sehmelir_read but 5, in their order
+ *     3 SEHMELIR_GRADE        the grade to convert to is not 2 to 8
+ *                             number: that grade
+ *     5 SEHMELIR_NO_ROOM      store_len is below the new outline's bytes
+ *                             number: the bytes needed
+ *     0 SEHMELIR_DONE         the new outline stands in the store
+ *                             number: its bytes
+ *
+ * Takes up to 256 KiB of stack.
+ */
+struct sehmelir_reply sehmelir_convert(uint8_t *store, size_t store_len,
+                                       uint32_t grade);
+
+/*
  * A path may also be lent as the VERTEX RECORDS that its host holds. They are
  * read where they lie, each once, and only read.
  */
@@ -759,15 +827,17 @@ struct sehmelir_vertex {
     int32_t x;
     int32_t y;
     int32_t radius;
+    uint32_t number; /* the point number: any word, 0 where there is none */
 };
 
 /*
  * Draws the edges of a path of `vertices` records into `out`: reply, number and
- * `out` are those of sehmelir_draw for the same numbers, three a vertex.
+ * `out` are those of sehmelir_draw for x, y and radius of each, three numbers a
+ * vertex. Point numbers draw nothing.
  *
  * The first of these that applies is the reply:
  *
- *     3 SEHMELIR_GRADE        the grade is not 1 to 8
+ *     3 SEHMELIR_GRADE        the grade is not 2 to 8
  *                             number: the grade
  *     2 SEHMELIR_TOO_MANY     there are above 4,096 vertices
  *                             number: the vertices
@@ -782,20 +852,21 @@ struct sehmelir_vertex {
  *     0 SEHMELIR_DONE         the edges stand in `out`, four numbers each
  *                             number: the edges
  *
- * After 3 and 2 no record has been read. Takes up to 584 KiB of stack.
+ * After 3 and 2 no record has been read. Takes up to 608 KiB of stack.
  */
 struct sehmelir_reply sehmelir_draw_records(const struct sehmelir_vertex *path,
                                             size_t vertices, uint32_t grade,
                                             int32_t *out, size_t out_len);
 
 /*
- * Keeps a path of `vertices` records, its grade and its edges as an outline in
- * `out`: reply, number and `out` are those of sehmelir_keep for the same
- * numbers, three a vertex.
+ * Keeps a path of `vertices` records, its point numbers, its grade and its edges
+ * as an outline of edition 2 in `out`: reply, number and `out` are those of
+ * sehmelir_keep for x, y and radius of each, three numbers a vertex, but for the
+ * point numbers, which are the records'.
  *
  * The first of these that applies is the reply:
  *
- *     3 SEHMELIR_GRADE        the grade is not 1 to 8
+ *     3 SEHMELIR_GRADE        the grade is not 2 to 8
  *                             number: the grade
  *     2 SEHMELIR_TOO_MANY     there are above 4,096 vertices
  *                             number: the vertices
@@ -815,6 +886,69 @@ struct sehmelir_reply sehmelir_draw_records(const struct sehmelir_vertex *path,
 struct sehmelir_reply sehmelir_keep_records(const struct sehmelir_vertex *path,
                                             size_t vertices, uint32_t grade,
                                             uint8_t *out, size_t out_len);
+
+/* What sehmelir_salvage answers. */
+struct sehmelir_salvaged {
+    uint32_t reply;   /* one of enum sehmelir_reply_number */
+    uint32_t zero;    /* 0 */
+    uint64_t number;  /* what it means stands with each reply, below */
+    uint64_t entries; /* the entries of the list; 0 after a refusal */
+};
+
+/* What of a body stood otherwise in a spoiled outline, and the total. */
+#define SEHMELIR_COUNT_DIFFERS 1
+#define SEHMELIR_EDGES_DIFFER 2
+#define SEHMELIR_BOTH_DIFFER 3
+#define SEHMELIR_TOTAL_DIFFERS 4
+
+/*
+ * Salvages a spoiled outline of a path: reads its header and vertices only,
+ * draws them anew, and writes the sound outline into `out` and what stood
+ * otherwise into `list`. Grade, edition, vertices and point numbers stay, and an
+ * outline without edges is written too.
+ *
+ * The list has two words an entry: a place, and what differs there. For each
+ * body that differs, in order, it has the index of its vertex, or how many
+ * vertices there are for the closing body, and SEHMELIR_COUNT_DIFFERS,
+ * SEHMELIR_EDGES_DIFFER or SEHMELIR_BOTH_DIFFER; then, where the edges in the
+ * header differ, how many vertices there are and one more, and
+ * SEHMELIR_TOTAL_DIFFERS. So there are at most two entries more than vertices.
+ * Old edges are found by the old counts, and compared up to the smaller count;
+ * those past the end of the store differ. The list is empty exactly if the store
+ * was sound, and `out` then holds the same outline.
+ *
+ * The first of these that applies is the reply:
+ *
+ *     6 SEHMELIR_NOT_OUTLINE  store_len is below 24, or the edition is not 1
+ *                             or 2
+ *                             number: 0
+ *     7 SEHMELIR_KIND         the kind is neither 0 nor 1
+ *                             number: the kind
+ *    12 SEHMELIR_OTHER_KIND   the outline is of a kerb
+ *                             number: its kind, 1
+ *     3 SEHMELIR_GRADE        the grade in the store is not 1 to 8
+ *                             number: that grade
+ *     2 SEHMELIR_TOO_MANY     the store says that it has above 4,096 vertices
+ *                             number: the vertices
+ *     6 SEHMELIR_NOT_OUTLINE  the store ends before its closing count does
+ *                             number: 0
+ *     4 SEHMELIR_OUTSIDE      a vertex in the store lies outside the limits
+ *                             number: the index of the first such vertex
+ *     5 SEHMELIR_NO_ROOM      out_len is below the outline's bytes
+ *                             number: the bytes needed
+ *    19 SEHMELIR_NO_LIST_ROOM list_len is below twice the entries
+ *                             number: the entries that there are
+ *     0 SEHMELIR_DONE         the outline stands in `out` and the list in
+ *                             `list`, two words an entry
+ *                             number: the outline's bytes
+ *
+ * list_len counts words; an odd last one stays as it is. The store is only read.
+ * Takes up to 256 KiB of stack.
+ */
+struct sehmelir_salvaged sehmelir_salvage(const uint8_t *store,
+                                          size_t store_len, uint8_t *out,
+                                          size_t out_len, uint32_t *list,
+                                          size_t list_len);
 
 #ifdef __cplusplus
 }

@@ -1,7 +1,8 @@
 /*
  * The calls from C, on one path: document 01's example 5, with and without point
  * numbers, and how far a vertex reaches on a few more; then vertex records, why
- * its edges are there, kerbs, the oldest chunks, and many outlines in one chunk.
+ * its edges are there, kerbs, the oldest chunks, many outlines in one chunk,
+ * two outlines side by side, and what is salvaged from a spoiled one.
  * One line for each check; the exit status is 1 if one of them fails.
  */
 #include "sehmelir.h"
@@ -13,11 +14,12 @@
 
 enum {
     PATH = 6,      /* numbers of the path */
-    EDGES = 10,    /* its edges */
-    NUMBERS = 40,  /* numbers of its edges */
-    OUTLINE = 224, /* bytes of its outline */
+    EDGES = 16,    /* its edges */
+    NUMBERS = 64,  /* numbers of its edges */
+    OUTLINE = 320, /* bytes of its outline */
     POINTS = 64,   /* bytes of an outline of two vertices without edges */
-    ONCE = 216,    /* bytes of its outline as it was kept in edition 1 */
+    ONCE = 312,    /* bytes of its outline as it was kept in edition 1 */
+    RETIRED = 216, /* bytes of that at grade 1 */
     SPARE = 9,     /* lent beyond the result */
     CANARIES = 16  /* not lent, before and after each lent buffer */
 };
@@ -27,15 +29,24 @@ static const int32_t path[PATH] = {0, 0, 5, 20, 0, 5};
 /* a path without edges */
 static const int32_t thin[PATH] = {0, 0, 1, 20, 0, 1};
 
+/* at grade 2 */
 static const int32_t edges[EDGES][4] = {
-    {20, 5, 0, 5},    {0, -5, 20, -5}, {0, 5, -4, 3},    {-4, 3, -5, -1},
-    {-5, -1, -2, -5}, {-2, -5, 0, -5}, {20, -5, 24, -3}, {24, -3, 25, 1},
-    {25, 1, 22, 5},   {22, 5, 20, 5},
+    {20, 5, 0, 5},    {0, -5, 20, -5},  {0, 5, -2, 4},    {-2, 4, -4, 3},
+    {-4, 3, -5, 1},   {-5, 1, -5, -2},  {-5, -2, -3, -4}, {-3, -4, -1, -5},
+    {-1, -5, 0, -5},  {20, -5, 22, -4}, {22, -4, 24, -3}, {24, -3, 25, -1},
+    {25, -1, 25, 2},  {25, 2, 23, 4},   {23, 4, 21, 5},   {21, 5, 20, 5},
 };
 
 /* the words of the outline before its edges */
-static const int32_t words[16] = {2, 0, 1,  2, 10, 0, 0, 5,
-                                  0, 0, 20, 0, 5,  0, 6, 4};
+static const int32_t words[16] = {2, 0, 2,  2, 16, 0, 0, 5,
+                                  0, 0, 20, 0, 5,  0, 9, 7};
+
+/* its outline of edition 1 and grade 1, which is retired: example 5 itself */
+static const int32_t retired[RETIRED / 4] = {
+    1,  0,  1,  2,  10, 0,  0,  5,  0,  20, 0,  5,  6,  4,  20, 5,  0,  5,
+    0,  -5, 20, -5, 0,  5,  -4, 3,  -4, 3,  -5, -1, -5, -1, -2, -5, -2, -5,
+    0,  -5, 20, -5, 24, -3, 24, -3, 25, 1,  25, 1,  22, 5,  22, 5,  20, 5,
+};
 
 /* Lent memory, canaries on both sides. */
 struct numbers {
@@ -98,10 +109,20 @@ static void put_outline(uint8_t *at) {
         put_word(at + POINTS + 4 * index, edges[index / 4][index % 4]);
 }
 
+/* The outline of the path in edition 1: no number in an entry. */
+static void put_once(uint8_t *at) {
+    static const size_t kept[3][3] = {{4, 4, 28}, {32, 36, 16}, {48, 56, OUTLINE - 56}};
+    uint8_t now[OUTLINE];
+    put_outline(now);
+    put_word(at, 1);
+    for (int part = 0; part < 3; part++)
+        memcpy(at + kept[part][0], now + kept[part][1], kept[part][2]);
+}
+
 /* The bytes of the outline of a path of two vertices, by its edges. */
 static uint64_t bytes_of(const int32_t two[PATH]) {
     int32_t none = 0;
-    return POINTS + 16 * sehmelir_draw(two, PATH, 1, &none, 0).number;
+    return POINTS + 16 * sehmelir_draw(two, PATH, 2, &none, 0).number;
 }
 
 static void check_draw(void) {
@@ -109,70 +130,77 @@ static void check_draw(void) {
     fill(&out, sizeof out);
     expected = out;
 
-    check_reply(sehmelir_draw(path, PATH, 1, out.lent, 0), SEHMELIR_NO_ROOM,
+    check_reply(sehmelir_draw(path, PATH, 2, out.lent, 0), SEHMELIR_NO_ROOM,
                 EDGES, 0, "draw without room tells the edges needed");
-    check_reply(sehmelir_draw(path, PATH, 1, out.lent, NUMBERS - 1),
+    check_reply(sehmelir_draw(path, PATH, 2, out.lent, NUMBERS - 1),
                 SEHMELIR_NO_ROOM, EDGES, 0, "draw is refused one number short");
     check_reply(sehmelir_draw(path, PATH - 1, 1, out.lent, NUMBERS),
                 SEHMELIR_UNEVEN, PATH - 1, 0, "draw of five numbers");
     check_reply(sehmelir_draw(path, PATH, 9, out.lent, NUMBERS), SEHMELIR_GRADE,
                 9, 0, "draw at grade 9");
+    check_reply(sehmelir_draw(path, PATH, 1, out.lent, NUMBERS), SEHMELIR_GRADE,
+                1, 0, "draw at grade 1");
     static const int32_t many[3 * (SEHMELIR_MOST_VERTICES + 1)];
-    check_reply(sehmelir_draw(many, 3 * (SEHMELIR_MOST_VERTICES + 1), 1, out.lent, NUMBERS),
+    check_reply(sehmelir_draw(many, 3 * (SEHMELIR_MOST_VERTICES + 1), 2, out.lent, NUMBERS),
                 SEHMELIR_TOO_MANY, 4097, 0, "draw of 4,097 vertices");
     static const int32_t outside[PATH] = {
         0, 0, 5, SEHMELIR_MOST_COORDINATE + 1, 0, 5};
-    check_reply(sehmelir_draw(outside, PATH, 1, out.lent, NUMBERS),
+    check_reply(sehmelir_draw(outside, PATH, 2, out.lent, NUMBERS),
                 SEHMELIR_OUTSIDE, 1, 0, "draw of a vertex outside the limits");
-    check_reply(sehmelir_draw(thin, PATH, 1, out.lent, NUMBERS),
+    check_reply(sehmelir_draw(thin, PATH, 2, out.lent, NUMBERS),
                 SEHMELIR_WITHOUT_EDGES, 2, 0, "draw of a path without edges");
     check(memcmp(&out, &expected, sizeof out) == 0,
           "draw's refusals change nothing");
 
-    check_reply(sehmelir_draw(path, PATH, 1, out.lent, NUMBERS + SPARE),
-                SEHMELIR_DONE, EDGES, 0, "draw gives ten edges");
+    check_reply(sehmelir_draw(path, PATH, 2, out.lent, NUMBERS + SPARE),
+                SEHMELIR_DONE, EDGES, 0, "draw gives sixteen edges");
     memcpy(expected.lent, edges, sizeof edges);
     check(memcmp(&out, &expected, sizeof out) == 0,
           "draw writes the edges and nothing else");
 
     int32_t none = 0;
-    check_reply(sehmelir_draw(&none, 0, 1, &none, 0), SEHMELIR_DONE, 0, 0,
+    check_reply(sehmelir_draw(&none, 0, 2, &none, 0), SEHMELIR_DONE, 0, 0,
                 "draw of no vertices without room");
 }
 
-/* The same path as records, between canaries. */
+/* The same path as records with point numbers, between canaries. */
 static void check_records(void) {
     struct sehmelir_vertex records[4] = {
-        {-1, -2, -3}, {0, 0, 5}, {20, 0, 5}, {-4, -5, -6}};
+        {-1, -2, -3, 7}, {0, 0, 5, 411}, {20, 0, 5, 4294967295}, {-4, -5, -6, 8}};
     const struct sehmelir_vertex *hedge = records + 1;
     struct sehmelir_vertex before[4];
     memcpy(before, records, sizeof before);
 
-    check(sizeof(struct sehmelir_vertex) == 12, "a record is three numbers");
+    check(sizeof(struct sehmelir_vertex) == 16 &&
+              offsetof(struct sehmelir_vertex, radius) == 8 &&
+              offsetof(struct sehmelir_vertex, number) == 12,
+          "a record is four 32-bit numbers");
 
     struct numbers out, expected;
     fill(&out, sizeof out);
     expected = out;
-    check_reply(sehmelir_draw_records(hedge, 2, 1, out.lent, NUMBERS - 1),
+    check_reply(sehmelir_draw_records(hedge, 2, 2, out.lent, NUMBERS - 1),
                 SEHMELIR_NO_ROOM, EDGES, 0,
                 "draw of records is refused one number short");
     check_reply(sehmelir_draw_records(hedge, 2, 9, out.lent, NUMBERS),
                 SEHMELIR_GRADE, 9, 0, "draw of records at grade 9");
-    check_reply(sehmelir_draw_records(hedge, 3, 1, out.lent, NUMBERS),
+    check_reply(sehmelir_draw_records(hedge, 2, 1, out.lent, NUMBERS),
+                SEHMELIR_GRADE, 1, 0, "draw of records at grade 1");
+    check_reply(sehmelir_draw_records(hedge, 3, 2, out.lent, NUMBERS),
                 SEHMELIR_OUTSIDE, 2, 0,
                 "draw of records, one outside the limits");
     static const struct sehmelir_vertex many[SEHMELIR_MOST_VERTICES + 1];
-    check_reply(sehmelir_draw_records(many, SEHMELIR_MOST_VERTICES + 1, 1,
+    check_reply(sehmelir_draw_records(many, SEHMELIR_MOST_VERTICES + 1, 2,
                                       out.lent, NUMBERS),
                 SEHMELIR_TOO_MANY, 4097, 0, "draw of 4,097 records");
-    check_reply(sehmelir_draw_records(many, SEHMELIR_MOST_VERTICES, 1, out.lent,
+    check_reply(sehmelir_draw_records(many, SEHMELIR_MOST_VERTICES, 2, out.lent,
                                       NUMBERS),
                 SEHMELIR_WITHOUT_EDGES, 4096, 0, "draw of records without edges");
     check(memcmp(&out, &expected, sizeof out) == 0,
           "refusals of records change nothing");
     check_reply(
-        sehmelir_draw_records(hedge, 2, 1, out.lent, NUMBERS + SPARE),
-        SEHMELIR_DONE, EDGES, 0, "draw of records gives ten edges");
+        sehmelir_draw_records(hedge, 2, 2, out.lent, NUMBERS + SPARE),
+        SEHMELIR_DONE, EDGES, 0, "draw of records gives sixteen edges");
     memcpy(expected.lent, edges, sizeof edges);
     check(memcmp(&out, &expected, sizeof out) == 0,
           "draw of records writes the edges and nothing else");
@@ -180,16 +208,18 @@ static void check_records(void) {
     struct bytes kept, outline;
     fill(&kept, sizeof kept);
     outline = kept;
-    check_reply(sehmelir_keep_records(hedge, 2, 1, kept.lent, OUTLINE - 1),
+    check_reply(sehmelir_keep_records(hedge, 2, 2, kept.lent, OUTLINE - 1),
                 SEHMELIR_NO_ROOM, OUTLINE, 0,
                 "keep of records is refused one byte short");
     check(memcmp(&kept, &outline, sizeof kept) == 0,
           "a refused keep of records changes nothing");
-    check_reply(sehmelir_keep_records(hedge, 2, 1, kept.lent, OUTLINE),
+    check_reply(sehmelir_keep_records(hedge, 2, 2, kept.lent, OUTLINE),
                 SEHMELIR_DONE, OUTLINE, 0, "keep of records gives the outline");
     put_outline(outline.lent);
+    put_word(outline.lent + 32, 411);
+    put_word(outline.lent + 52, -1);
     check(memcmp(&kept, &outline, sizeof kept) == 0,
-          "keep of records writes the outline and nothing else");
+          "keep of records writes the outline with its numbers, nothing else");
     check(memcmp(records, before, sizeof before) == 0, "records are only read");
 }
 
@@ -200,21 +230,23 @@ static void check_keep(void) {
 
     check(SEHMELIR_OUTLINE_BYTES(2, EDGES) == OUTLINE,
           "the header tells an outline's bytes");
-    check_reply(sehmelir_keep(path, PATH, 1, out.lent, 0), SEHMELIR_NO_ROOM,
+    check_reply(sehmelir_keep(path, PATH, 2, out.lent, 0), SEHMELIR_NO_ROOM,
                 OUTLINE, 0, "keep without room tells the bytes needed");
-    check_reply(sehmelir_keep(path, PATH, 1, out.lent, OUTLINE - 1),
+    check_reply(sehmelir_keep(path, PATH, 2, out.lent, OUTLINE - 1),
                 SEHMELIR_NO_ROOM, OUTLINE, 0, "keep is refused one byte short");
     check_reply(sehmelir_keep(path, PATH, 0, out.lent, OUTLINE), SEHMELIR_GRADE,
                 0, 0, "keep at grade 0");
-    check_reply(sehmelir_keep(thin, PATH, 1, out.lent, POINTS),
+    check_reply(sehmelir_keep(path, PATH, 1, out.lent, OUTLINE), SEHMELIR_GRADE,
+                1, 0, "keep at grade 1");
+    check_reply(sehmelir_keep(thin, PATH, 2, out.lent, POINTS),
                 SEHMELIR_WITHOUT_EDGES, 2, 0, "keep of a path without edges");
-    check_reply(sehmelir_keep(thin, PATH, 1, out.lent, POINTS - 1),
+    check_reply(sehmelir_keep(thin, PATH, 2, out.lent, POINTS - 1),
                 SEHMELIR_WITHOUT_EDGES, 2, 0, "  whose outline had no room");
     check(memcmp(&out, &expected, sizeof out) == 0,
           "keep's refusals change nothing");
 
-    check_reply(sehmelir_keep(path, PATH, 1, out.lent, OUTLINE + SPARE),
-                SEHMELIR_DONE, OUTLINE, 0, "keep gives 224 bytes");
+    check_reply(sehmelir_keep(path, PATH, 2, out.lent, OUTLINE + SPARE),
+                SEHMELIR_DONE, OUTLINE, 0, "keep gives 320 bytes");
     put_outline(expected.lent);
     check(memcmp(&out, &expected, sizeof out) == 0,
           "keep writes the outline and nothing else");
@@ -240,7 +272,7 @@ static void check_read(void) {
 
     check_path(
         sehmelir_read(store.lent, OUTLINE + SPARE, out.lent, NUMBERS + SPARE),
-        SEHMELIR_DONE, 2, 1, "read gives two vertices and grade 1");
+        SEHMELIR_DONE, 2, 2, "read gives two vertices and grade 2");
     memcpy(expected.lent, path, sizeof path);
     check(memcmp(&out, &expected, sizeof out) == 0,
           "read writes the path and nothing else");
@@ -266,7 +298,7 @@ static void check_replace(void) {
     uint64_t narrow = bytes_of(narrow_start);
     check_reply(sehmelir_replace(store.lent, whole, 0, 0, 0, 1), SEHMELIR_DONE,
                 narrow, 0, "replace by a smaller radius");
-    check_reply(sehmelir_keep(narrow_start, PATH, 1, expected.lent, whole),
+    check_reply(sehmelir_keep(narrow_start, PATH, 2, expected.lent, whole),
                 SEHMELIR_DONE, narrow, 0, "keep of the changed path");
     memset(expected.lent + narrow, 0, OUTLINE - narrow);
     check(memcmp(&store, &expected, sizeof store) == 0,
@@ -277,7 +309,7 @@ static void check_replace(void) {
           "that refusal changes nothing");
 
     /* an outline without edges, as they were kept once */
-    static const int32_t points[16] = {2, 0, 1,  2, 0, 0, 0, 1,
+    static const int32_t points[16] = {2, 0, 2,  2, 0, 0, 0, 1,
                                        0, 0, 20, 0, 1, 0, 0, 0};
     for (int index = 0; index < 16; index++) {
         put_word(store.lent + 4 * index, points[index]);
@@ -285,7 +317,7 @@ static void check_replace(void) {
     }
     int32_t still[PATH];
     check_path(sehmelir_read(store.lent, POINTS, still, PATH), SEHMELIR_DONE,
-               2, 1, "an outline without edges still reads");
+               2, 2, "an outline without edges still reads");
     check(memcmp(still, thin, sizeof thin) == 0, "  and gives its path");
 
     static const int32_t narrow_end[PATH] = {0, 0, 5, 20, 0, 1};
@@ -335,19 +367,14 @@ static void check_numbers(void) {
                 SEHMELIR_DONE, OUTLINE, 0, "a vertex is replaced by itself");
     check(memcmp(&store, &same, sizeof store) == 0, "and keeps its number");
 
-    /* the same path in edition 1: no number in an entry */
-    static const size_t kept[3][3] = {{4, 4, 28}, {32, 36, 16}, {48, 56, 168}};
-    put_word(store.lent, 1);
-    for (int part = 0; part < 3; part++)
-        memcpy(store.lent + kept[part][0], same.lent + kept[part][1],
-               kept[part][2]);
+    put_once(store.lent);
     same = store;
     check_reply(sehmelir_numbers(store.lent, ONCE, out + 1, 2), SEHMELIR_DONE,
                 2, 0, "edition 1 is read");
     check(out[1] == 0 && out[2] == 0, "its numbers are 0");
     int32_t still[PATH];
     check_path(sehmelir_read(store.lent, ONCE, still, PATH), SEHMELIR_DONE, 2,
-               1, "and so are its vertices");
+               2, "and so are its vertices");
     check(memcmp(still, path, sizeof path) == 0, "which are the path");
     check_reply(sehmelir_replace(store.lent, ONCE, 1, 20, 0, 5), SEHMELIR_DONE,
                 ONCE, 0, "a vertex of edition 1 is replaced");
@@ -355,11 +382,74 @@ static void check_numbers(void) {
           "and the outline stays of edition 1");
 }
 
+/* An outline of grade 1: read and explained as before, not replaced, and converted
+ * to what the outline of edition 1 is at grade 2. */
+static void check_retired(void) {
+    struct bytes store, same;
+    fill(&store, sizeof store);
+    for (int index = 0; index < RETIRED / 4; index++)
+        put_word(store.lent + 4 * index, retired[index]);
+    same = store;
+    int32_t still[PATH];
+    check_path(sehmelir_read(store.lent, RETIRED, still, PATH), SEHMELIR_DONE, 2,
+               1, "an outline of grade 1 is read");
+    check(memcmp(still, path, sizeof path) == 0, "and gives its path");
+    check_reply(sehmelir_replace(store.lent, RETIRED, 9, 0, 0, -1),
+                SEHMELIR_GRADE, 1, 0, "and has no vertex replaced");
+    store.lent[100] ^= 1;
+    check_reply(sehmelir_replace(store.lent, RETIRED, 9, 0, 0, -1),
+                SEHMELIR_NOT_SOUND, 100, 0, "unless it is not sound, first");
+    store.lent[100] ^= 1;
+    check_reply(sehmelir_convert(store.lent, ONCE, 1), SEHMELIR_GRADE, 1, 0,
+                "nothing is converted to grade 1");
+    check_reply(sehmelir_convert(store.lent, ONCE - 1, 2), SEHMELIR_NO_ROOM,
+                ONCE, 0, "convert is refused one byte short");
+    check_reply(sehmelir_convert(store.lent, RETIRED - 1, 9),
+                SEHMELIR_NOT_OUTLINE, 0, 0, "convert of a store that is cut");
+    check(memcmp(&store, &same, sizeof store) == 0, "it stays as it was");
+
+    check_reply(sehmelir_convert(store.lent, OUTLINE + SPARE, 2), SEHMELIR_DONE,
+                ONCE, 0, "it is converted to grade 2");
+    put_once(same.lent);
+    check(memcmp(&store, &same, sizeof store) == 0,
+          "in its edition, and nothing else changed");
+}
+
+/* An outline of grade 3 converted to grade 2, where it is shorter; and a kerb. */
+static void check_convert(void) {
+    struct {
+        uint8_t before[CANARIES];
+        uint8_t lent[2 * OUTLINE];
+        uint8_t after[CANARIES];
+    } store, expected;
+    fill(&store, sizeof store);
+    uint64_t fine =
+        sehmelir_keep(path, PATH, 3, store.lent, sizeof store.lent).number;
+    expected = store;
+    check(fine > OUTLINE && fine < sizeof store.lent,
+          "the outline of grade 3 is longer");
+    check_reply(sehmelir_convert(store.lent, sizeof store.lent, 2),
+                SEHMELIR_DONE, OUTLINE, 0, "it is converted to grade 2");
+    put_outline(expected.lent);
+    memset(expected.lent + OUTLINE, 0, fine - OUTLINE);
+    check(memcmp(&store, &expected, sizeof store) == 0,
+          "zeros follow up to its old end, and no farther");
+
+    static const int32_t straight[4] = {0, 0, 20, 0};
+    uint8_t kerb[SEHMELIR_KERB_BYTES(2, 4)], other[sizeof kerb];
+    sehmelir_keep_kerb(straight, 4, 3, 5, SEHMELIR_ROUND, 0, kerb, sizeof kerb);
+    sehmelir_keep_kerb(straight, 4, 8, 5, SEHMELIR_ROUND, 0, other,
+                       sizeof other);
+    check_reply(sehmelir_convert(kerb, sizeof kerb, 8), SEHMELIR_DONE,
+                sizeof kerb, 0, "a kerb is converted");
+    check(memcmp(kerb, other, sizeof kerb) == 0, "to what is kept at that grade");
+}
+
 /* How far a vertex of a path reaches that is kept in a store. */
 static void check_reach_of(const int32_t *numbers, size_t count, size_t index,
                            uint64_t reached, const char *what) {
     static uint8_t store[4096];
-    sehmelir_keep(numbers, count, 1, store, sizeof store);
+    sehmelir_keep(numbers, count, 2, store, sizeof store);
     check_reply(sehmelir_reach(store, sizeof store, index), SEHMELIR_DONE,
                 reached, 0, what);
 }
@@ -412,8 +502,11 @@ static void check_explain(void) {
         {SEHMELIR_LEFT_SIDE, 1, 0, 1, 1}, {SEHMELIR_RIGHT_SIDE, 1, 0, 1, 1},
         {SEHMELIR_START_CAP, 1, 0, 0, 0}, {SEHMELIR_START_CAP, 1, 1, 0, 0},
         {SEHMELIR_START_CAP, 1, 2, 0, 0}, {SEHMELIR_START_CAP, 1, 3, 0, 0},
-        {SEHMELIR_END_CAP, 2, 0, 0, 0},   {SEHMELIR_END_CAP, 2, 1, 0, 0},
-        {SEHMELIR_END_CAP, 2, 2, 0, 0},   {SEHMELIR_END_CAP, 2, 3, 0, 0},
+        {SEHMELIR_START_CAP, 1, 4, 0, 0}, {SEHMELIR_START_CAP, 1, 5, 0, 0},
+        {SEHMELIR_START_CAP, 1, 6, 0, 0}, {SEHMELIR_END_CAP, 2, 0, 0, 0},
+        {SEHMELIR_END_CAP, 2, 1, 0, 0},   {SEHMELIR_END_CAP, 2, 2, 0, 0},
+        {SEHMELIR_END_CAP, 2, 3, 0, 0},   {SEHMELIR_END_CAP, 2, 4, 0, 0},
+        {SEHMELIR_END_CAP, 2, 5, 0, 0},   {SEHMELIR_END_CAP, 2, 6, 0, 0},
     };
     struct bytes store, same;
     fill(&store, sizeof store);
@@ -424,7 +517,7 @@ static void check_explain(void) {
         check_reason(sehmelir_explain(store.lent, OUTLINE + SPARE, edge),
                      SEHMELIR_DONE, edge, whys[edge], "an edge is explained");
     check_reason(sehmelir_explain(store.lent, OUTLINE, EDGES),
-                 SEHMELIR_NO_EDGE, EDGES, unnamed, "there is no eleventh edge");
+                 SEHMELIR_NO_EDGE, EDGES, unnamed, "there is no seventeenth edge");
     check_reason(sehmelir_explain(store.lent, OUTLINE, SIZE_MAX),
                  SEHMELIR_NO_EDGE, SIZE_MAX, unnamed,
                  "nor one of the largest number");
@@ -459,7 +552,7 @@ static void check_explain(void) {
     static const size_t left[5] = {SEHMELIR_LEFT_SIDE, 1, 0, 1, 0};
     static const size_t right[5] = {SEHMELIR_RIGHT_SIDE, 1, 0, 0, 1};
     uint8_t kept[1024];
-    size_t bytes = sehmelir_keep(point, 6, 1, kept, sizeof kept).number;
+    size_t bytes = sehmelir_keep(point, 6, 2, kept, sizeof kept).number;
     check_reason(sehmelir_explain(kept, bytes, 0), SEHMELIR_DONE, 0, left,
                  "a left side runs to the first vertex");
     check_reason(sehmelir_explain(kept, bytes, 1), SEHMELIR_DONE, 1, right,
@@ -503,12 +596,12 @@ static void check_damage(void) {
     check_damaged(1, 2, SEHMELIR_KIND, 2, "read of kind 2");
     check_damaged(2, 9, SEHMELIR_GRADE, 9, "read of grade 9");
     check_damaged(3, 4097, SEHMELIR_TOO_MANY, 4097, "read of 4,097 vertices");
-    check_damaged(4, 11, SEHMELIR_NOT_OUTLINE, 0, "read of one edge too many");
+    check_damaged(4, 17, SEHMELIR_NOT_OUTLINE, 0, "read of one edge too many");
     check_damaged(10, -268435457, SEHMELIR_OUTSIDE, 1,
                   "read of a vertex outside the limits");
-    check_damaged(4, 9, SEHMELIR_NOT_SOUND, 16, "read of one edge too few");
+    check_damaged(4, 15, SEHMELIR_NOT_SOUND, 16, "read of one edge too few");
     check_damaged(14, 7, SEHMELIR_NOT_SOUND, 56, "read of a wrong edge count");
-    check_damaged(55, 5 + 256, SEHMELIR_NOT_SOUND, 221,
+    check_damaged(79, 5 + 256, SEHMELIR_NOT_SOUND, 317,
                   "read of a wrong last edge");
 }
 
@@ -810,6 +903,136 @@ static void check_chunk(void) {
           "compacting moves the outline and zeroes the gap");
 }
 
+/* The outline of edition 2 and that of edition 1 side by side: their bodies. */
+static void check_side(void) {
+    struct bytes before, after, same;
+    fill(&before, sizeof before);
+    put_outline(before.lent);
+    same = before;
+    fill(&after, sizeof after);
+    put_once(after.lent);
+
+    check_part(sehmelir_side(before.lent, OUTLINE, after.lent, ONCE, false, 0),
+               SEHMELIR_DONE, 0, POINTS, 0, "the first body is empty");
+    check_part(sehmelir_side(before.lent, OUTLINE, after.lent, ONCE, false, 1),
+               SEHMELIR_DONE, 9, POINTS, 144, "the second body before");
+    check_part(sehmelir_side(before.lent, OUTLINE, after.lent, ONCE, true, 1),
+               SEHMELIR_DONE, 9, ONCE - 256, 144, "the second body after");
+    check(memcmp(before.lent + POINTS, after.lent + ONCE - 256, 144) == 0,
+          "they hold the same edges");
+    check_part(sehmelir_side(before.lent, OUTLINE + SPARE, after.lent, ONCE,
+                             false, 2),
+               SEHMELIR_DONE, 7, POINTS + 144, 112, "the closing body");
+    check_part(sehmelir_side(before.lent, OUTLINE, after.lent, ONCE, true, 3),
+               SEHMELIR_NO_VERTEX, 3, 0, 0, "a body after the closing one");
+    check_part(sehmelir_side(before.lent, OUTLINE, after.lent, ONCE - 1, false,
+                             3),
+               SEHMELIR_NOT_OUTLINE, 0, 0, 0, "a later outline that is cut");
+    before.lent[70] ^= 1;
+    check_part(sehmelir_side(before.lent, OUTLINE, after.lent, ONCE - 1, true,
+                             3),
+               SEHMELIR_NOT_SOUND, 70, 0, 0, "an earlier one that is not sound");
+    before.lent[70] ^= 1;
+
+    static const int32_t line[4] = {0, 0, 20, 0};
+    uint8_t kerb[SEHMELIR_KERB_BYTES(2, 4)];
+    check_reply(sehmelir_keep_kerb(line, 4, 2, 5, SEHMELIR_BEVEL, 0, kerb,
+                                   sizeof kerb),
+                SEHMELIR_DONE, sizeof kerb, 0, "a kerb beside it");
+    check_part(sehmelir_side(before.lent, OUTLINE, kerb, sizeof kerb, false, 3),
+               SEHMELIR_OTHER_KIND, 1, 0, 0, "has no bodies of vertices");
+    check(memcmp(&before, &same, sizeof before) == 0,
+          "both are left as they were");
+}
+
+static void check_salvaged(struct sehmelir_salvaged given, uint32_t reply,
+                           uint64_t number, uint64_t entries,
+                           const char *what) {
+    bool same = given.reply == reply && given.zero == 0 &&
+                given.number == number && given.entries == entries;
+    check(same, what);
+    if (!same)
+        printf("  reply %lu number %llu entries %llu\n",
+               (unsigned long)given.reply, (unsigned long long)given.number,
+               (unsigned long long)given.entries);
+}
+
+/* A sound outline, and the same with other counts, another edge and total. */
+static void check_salvage(void) {
+    struct bytes store, out, same, expected;
+    uint32_t list[9], notes[9];
+    fill(&store, sizeof store);
+    put_outline(store.lent);
+    put_word(store.lent + 32, 411);
+    same = store;
+    fill(&out, sizeof out);
+    expected = out;
+    fill(list, sizeof list);
+    memcpy(notes, list, sizeof notes);
+
+    check_salvaged(sehmelir_salvage(store.lent, OUTLINE, out.lent, OUTLINE - 1,
+                                    list + 1, 7),
+                   SEHMELIR_NO_ROOM, OUTLINE, 0,
+                   "salvage is refused one byte short");
+    check_salvaged(sehmelir_salvage(store.lent, POINTS - 1, out.lent, OUTLINE,
+                                    list + 1, 7),
+                   SEHMELIR_NOT_OUTLINE, 0, 0,
+                   "salvage of a store that ends before its closing count");
+    put_word(store.lent + 4, 1);
+    check_salvaged(sehmelir_salvage(store.lent, POINTS, out.lent, OUTLINE,
+                                    list + 1, 7),
+                   SEHMELIR_OTHER_KIND, 1, 0, "salvage of a kerb");
+    put_word(store.lent + 4, 2);
+    check_salvaged(sehmelir_salvage(store.lent, POINTS, out.lent, OUTLINE,
+                                    list + 1, 7),
+                   SEHMELIR_KIND, 2, 0, "salvage of kind 2");
+    put_word(store.lent + 4, 0);
+    put_word(store.lent + 8, 9);
+    check_salvaged(sehmelir_salvage(store.lent, POINTS, out.lent, OUTLINE,
+                                    list + 1, 7),
+                   SEHMELIR_GRADE, 9, 0, "salvage at grade 9");
+    put_word(store.lent + 8, words[2]);
+    put_word(store.lent + 48, -1);
+    check_salvaged(sehmelir_salvage(store.lent, OUTLINE, out.lent, OUTLINE,
+                                    list + 1, 7),
+                   SEHMELIR_OUTSIDE, 1, 0, "salvage of a vertex outside");
+    store = same;
+
+    /* count and edges of the closing body, and the total: two entries */
+    put_word(store.lent + 16, 99);
+    put_word(store.lent + 60, 3);
+    put_word(store.lent + POINTS + 16 * words[14], 7);
+    struct bytes spoiled = store;
+    check_salvaged(sehmelir_salvage(store.lent, OUTLINE, out.lent, OUTLINE,
+                                    list + 1, 3),
+                   SEHMELIR_NO_LIST_ROOM, 2, 0,
+                   "salvage is refused one word short");
+    check(memcmp(&out, &expected, sizeof out) == 0 &&
+              memcmp(list, notes, sizeof list) == 0,
+          "salvage's refusals change nothing");
+    check_salvaged(sehmelir_salvage(store.lent, OUTLINE + SPARE, out.lent,
+                                    OUTLINE + SPARE, list + 1, 7),
+                   SEHMELIR_DONE, OUTLINE, 2, "a spoiled outline is salvaged");
+    memcpy(expected.lent, same.lent, OUTLINE);
+    check(memcmp(&out, &expected, sizeof out) == 0,
+          "the sound outline and nothing else is written");
+    notes[1] = 2, notes[2] = SEHMELIR_BOTH_DIFFER;
+    notes[3] = 3, notes[4] = SEHMELIR_TOTAL_DIFFERS;
+    check(memcmp(list, notes, sizeof list) == 0,
+          "the list has the closing body and the total, and nothing else");
+    check(memcmp(&store, &spoiled, sizeof store) == 0,
+          "salvage leaves the store as it was");
+
+    store = same;
+    check_salvaged(sehmelir_salvage(store.lent, OUTLINE, out.lent, OUTLINE,
+                                    list, 0),
+                   SEHMELIR_DONE, OUTLINE, 0,
+                   "a sound outline needs no room for a list");
+    check(memcmp(&out, &expected, sizeof out) == 0 &&
+              memcmp(list, notes, sizeof list) == 0,
+          "and comes through unchanged");
+}
+
 int main(void) {
     setvbuf(stdout, NULL, _IOLBF, BUFSIZ);
     check(sizeof(struct sehmelir_reply) == 16 &&
@@ -822,6 +1045,8 @@ int main(void) {
     check_read();
     check_replace();
     check_numbers();
+    check_retired();
+    check_convert();
     check_reach();
     check(sizeof(struct sehmelir_reason) == 40 &&
               offsetof(struct sehmelir_reason, reason) == 4 &&
@@ -848,6 +1073,12 @@ int main(void) {
           "a part is two 32-bit numbers and three 64-bit ones");
     check_chunk_refusals();
     check_chunk();
+    check_side();
+    check(sizeof(struct sehmelir_salvaged) == 24 &&
+              offsetof(struct sehmelir_salvaged, number) == 8 &&
+              offsetof(struct sehmelir_salvaged, entries) == 16,
+          "what is salvaged is two 32-bit numbers and two 64-bit ones");
+    check_salvage();
     puts(failed ? "tests/c: FAILED" : "tests/c: all checks hold");
     return failed;
 }

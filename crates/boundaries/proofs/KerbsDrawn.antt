@@ -12,7 +12,7 @@ use Rattle.turning.specs.declared.Edge.{Edge}
 use Rattle.turning.proofs.Most.{edges-four}
 use Rattle.kerb.specs.Styles.{styleOf}
 use Rattle.kerb_paths.specs.Points.{kerbPath}
-use Rattle.replies.specs.Replies.{Reply, gradeRow, countRow, outsideRow, emptyRow, roomRow, written}
+use Rattle.replies.specs.Replies.{Reply, drawGradeRow, countRow, outsideRow, emptyRow, roomRow, written}
 use Rattle.replies.specs.StyleRows.{styleRow}
 use Rattle.replies.proofs.Rows.{NoneHold, first-none, none-last}
 use Rattle.kerb_rows.specs.KerbRows.{pairsRow, kerbRows, kerbDue}
@@ -26,7 +26,7 @@ module _ (l : List ℤ) (g r j c room : ℕ) (h : drawKerbReply l g r j c room .
   due = kerbDue l g r j c
 
   kerb-drawn-none : NoneHold (kerbRows l g r j c ++ (emptyRow (length (kerbPath (pos r) l)) (length due) ∷ roomRow (4 * length due) room (length due) ∷ []))
-  unfolding drawKerbReply kerbRows pairsRow gradeRow styleRow countRow outsideRow emptyRow roomRow
+  unfolding drawKerbReply kerbRows pairsRow drawGradeRow styleRow countRow outsideRow emptyRow roomRow
   kerb-drawn-none = first-none _ _ (refl, (refl, (refl, (refl, (refl, (refl, (refl, tt))))))) h
 
   kerb-drawn-number : drawKerbReply l g r j c room .1 ≡ length due

@@ -31,11 +31,11 @@ use Rattle.outline.specs.declared.Form.{Form}
 use Rattle.outline.specs.declared.Form.the-variants.{Stroke, Kerb}
 use Rattle.outline.specs.Stores.{formIn, gradeIn, lengthIn, pathIn, postsIn}
 use Rattle.outline.proofs.ReadBack.{numbers-length, length-back, header-word}
-use Rattle.replies.specs.Replies.{Reply, triplesRow, gradeRow, countRow, outsideRow, emptyRow, roomRow, pathRows, written}
+use Rattle.replies.specs.Replies.{Reply, triplesRow, drawGradeRow, countRow, outsideRow, emptyRow, roomRow, pathRows, written}
 use Rattle.replies.proofs.Rows.{NoneHold, first-none, none-last}
 use Rattle.drawing.specs.Drawing.{drawReply, drawOut}
 use Rattle.keeping.proofs.PathKept.{keep-within, keep-out}
-use Rattle.theorems.proofs.ThroughCalls.{sound-begins}
+use Rattle.outline.proofs.BodiesInBytes.{sound-begins}
 use Rattle.closing.specs.Closing.{Balanced, strayOf}
 use Rattle.closing.proofs.PathsClose.{boundary-closes}
 use Rattle.closing.proofs.KerbsClose.{kerb-closes}
@@ -51,7 +51,7 @@ module _ (path : List ℤ) (g room : ℕ) (h : drawReply path g room .0 ≡ 0) w
   edges = edgesOf g (pathOf path)
 
   draw-none : NoneHold (pathRows path g ++ (emptyRow (length (pathOf path)) (length edges) ∷ roomRow (4 * length edges) room (length edges) ∷ []))
-  unfolding drawReply pathRows triplesRow gradeRow countRow outsideRow emptyRow roomRow
+  unfolding drawReply pathRows triplesRow drawGradeRow countRow outsideRow emptyRow roomRow
   draw-none = first-none _ _ (refl, (refl, (refl, (refl, (refl, (refl, tt)))))) h
 
   draw-inside : firstOutside (pathOf path) ≡ length (pathOf path)

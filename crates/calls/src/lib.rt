@@ -1,4 +1,6 @@
-// The calls with room of their own: a path's edges, its kept outline, the path of an outline, another vertex in one, and how far that reaches.
+// The calls with room of their own: a path's edges, its kept outline, the path of an outline, another vertex in one, and how far that reaches. What is
+// small gets few own numbers, since they must be zeros first.
+use checking::sizes::is_small;
 use contacts::Vertex;
 ghost use Rattle.drawing.specs.Drawing.{Draws};
 ghost use Rattle.kerb_drawing.specs.KerbDrawing.{DrawsKerb};
@@ -34,7 +36,11 @@ pub fn draw_kerb(
 pub fn keep(path: &[i32], grade: u32, out: &mut [u8]) -> keeping::Kept
     ensures { λ r. ⌜ Keeps (now (path .entry)) (plainPosts (now (path .entry))) grade (now (out .entry)) r (now (out .exit)) ⌝ }
 {
-    let mut own = [0i32; 36908];
+    if grade <= 4 {
+        let mut own = [0i32; 592];
+        return keeping::keep_with(path, grade, &mut own, out);
+    }
+    let mut own = [0i32; 8272];
     keeping::keep_with(path, grade, &mut own, out)
 }
 
@@ -49,7 +55,7 @@ pub fn keep_kerb(
 ) -> keeping::Kept
     ensures { λ r. ⌜ KeepsKerb (now (points .entry)) grade radius join closed (now (out .entry)) r (now (out .exit)) ⌝ }
 {
-    let mut own = [0i32; 36908];
+    let mut own = [0i32; 8272];
     kerb_keeping::keep_kerb_with(points, grade, radius, join, closed, &mut own, out)
 }
 
@@ -57,8 +63,13 @@ pub fn keep_kerb(
 pub fn read(store: &[u8], out: &mut [i32]) -> reading::Read
     ensures { λ r. ⌜ Reads (now (store .entry)) (now (out .entry)) r (now (out .exit)) ⌝ }
 {
+    if is_small(store) {
+        let mut path = [0i32; 192];
+        let mut own = [0i32; 592];
+        return reading::read_with(store, out, &mut path, &mut own);
+    }
     let mut path = [0i32; 12288];
-    let mut own = [0i32; 36908];
+    let mut own = [0i32; 8272];
     reading::read_with(store, out, &mut path, &mut own)
 }
 
@@ -66,31 +77,57 @@ pub fn read(store: &[u8], out: &mut [i32]) -> reading::Read
 pub fn numbers(store: &[u8], out: &mut [u32]) -> reading::posts::PostsRead
     ensures { λ r. ⌜ ReadsPosts (now (store .entry)) (now (out .entry)) r (now (out .exit)) ⌝ }
 {
+    if is_small(store) {
+        let mut path = [0i32; 192];
+        let mut own = [0i32; 592];
+        return reading::posts::posts_with(store, out, &mut path, &mut own);
+    }
     let mut path = [0i32; 12288];
-    let mut own = [0i32; 36908];
+    let mut own = [0i32; 8272];
     reading::posts::posts_with(store, out, &mut path, &mut own)
+}
+
+// Replaces a vertex of a sound outline by another, in place.
+fn replace_vertex(store: &mut [u8], index: usize, v: Vertex) -> editing::Replaced
+    ensures { λ r. ⌜ Replaces (now (store .entry)) index v r (now (store .exit)) ⌝ }
+{
+    if is_small(store) {
+        let mut path = [0i32; 192];
+        let mut posts = [0u32; 64];
+        let mut own = [0i32; 592];
+        return editing::replacing::replace_with(store, index, v, &mut path, &mut posts, &mut own);
+    }
+    let mut path = [0i32; 12288];
+    let mut posts = [0u32; 4096];
+    let mut own = [0i32; 8272];
+    editing::replacing::replace_with(store, index, v, &mut path, &mut posts, &mut own)
 }
 
 // Replaces a vertex of a sound outline, in place.
 pub fn replace(store: &mut [u8], index: usize, x: i32, y: i32, radius: i32) -> editing::Replaced
     ensures { λ r. ⌜ Replaces (now (store .entry)) index (record { x = x; y = y; radius = radius }) r (now (store .exit)) ⌝ }
 {
-    let mut path = [0i32; 12288];
-    let mut posts = [0u32; 4096];
-    let mut own = [0i32; 36908];
+    let a = x as i64;
+    let b = y as i64;
+    let r = radius as i64;
     let v = Vertex {
-        x: x as i64,
-        y: y as i64,
-        radius: radius as i64,
+        x: a,
+        y: b,
+        radius: r,
     };
-    editing::replacing::replace_with(store, index, v, &mut path, &mut posts, &mut own)
+    replace_vertex(store, index, v)
 }
 
 // Tells how far replacing a vertex of a sound outline can reach.
 pub fn reach(store: &[u8], index: usize) -> reaching::Reached
     ensures { λ r. ⌜ Reaches (now (store .entry)) index r ⌝ }
 {
+    if is_small(store) {
+        let mut path = [0i32; 192];
+        let mut own = [0i32; 592];
+        return reaching::reach::reach_with(store, index, &mut path, &mut own);
+    }
     let mut path = [0i32; 12288];
-    let mut own = [0i32; 36908];
+    let mut own = [0i32; 8272];
     reaching::reach::reach_with(store, index, &mut path, &mut own)
 }

@@ -74,10 +74,10 @@ module _ {s : List ℕ} {h : Header} (H : Head s h) where
   header-few e = rw e (width-few (h .form) (h .n) (omega (arith, H .vertices, H .headed .count)))
 
   -- the numbers that a store's vertices are shown in: w is what the code has for how many a vertex takes
-  module _ {p₀ p₁ : List ℤ} {w : ℕ} (room : 12288 ≤ length p₀) (ew : w ≡ lentWidth (h .form))
+  module _ {p₀ p₁ : List ℤ} {w : ℕ} (room : lentWidth (h .form) * h .n ≤ length p₀) (ew : w ≡ lentWidth (h .form))
       (q : Runs put (lentNumbers (h .form)) p₀ 0 (shownIn (h .form) (h .n) (drop (headerWords (h .form)) (wordsIn s))) p₁ (lentWidth (h .form) * h .n)) where
     shown-all : take (lentWidth (h .form) * h .n) p₁ ≡ spread (lentNumbers (h .form)) (shownIn (h .form) (h .n) (drop (headerWords (h .form)) (wordsIn s)))
-    shown-all = path-front q (omega (arith, room, header-few {w = lentWidth (h .form)} refl))
+    shown-all = path-front q room
 
     shown-is : shownIn (h .form) (h .n) (drop (headerWords (h .form)) (wordsIn s)) ≡ shownPath s
     unfolding shownPath

@@ -1,3 +1,5 @@
 -- What the contracts cite.
+pub mod Known
 pub mod OtherKind
 pub mod StoreChecks
+pub mod StoreRoom

@@ -22,10 +22,11 @@ ghost use Rattle.comparing.specs.Compares.{lentPath};
 ghost use Rattle.heading.specs.Shows.{lentNumbers, lentWidth, shownPath};
 ghost use Rattle.heading.specs.Heads.{Head};
 ghost use Rattle.checking.specs.StoreChecks.{RestSays};
+ghost use Rattle.checking.specs.StoreRoom.{storePath, storeOwn};
 
 // The rows past a stroke's header, over its vertices as numbers.
 fn check_vertices(path: &[i32], s: &[u8], h: Header, edition: Edition, own: &mut [i32]) -> Checked
-    requires { ⌜ Head (now s) h × (h .form ≡ Stroke edition) × (pathOf (now path) ≡ shownPath (now s)) × (36908 ≤ length (now own)) ⌝ }
+    requires { ⌜ Head (now s) h × (h .form ≡ Stroke edition) × (pathOf (now path) ≡ shownPath (now s)) × (storeOwn (now s) ≤ length (now own)) ⌝ }
     ensures { λ r. ⌜ RestSays (now (s .entry)) r ⌝ }
 {
     let n = h.n;
@@ -44,7 +45,7 @@ fn check_vertices(path: &[i32], s: &[u8], h: Header, edition: Edition, own: &mut
 
 // The rows past a kerb's header, over its points as numbers.
 fn check_points(path: &[i32], s: &[u8], h: Header, y: Style, own: &mut [i32]) -> Checked
-    requires { ⌜ Head (now s) h × (h .form ≡ Kerb y) × (kerbPath (y .radius) (now path) ≡ shownPath (now s)) × (36908 ≤ length (now own)) ⌝ }
+    requires { ⌜ Head (now s) h × (h .form ≡ Kerb y) × (kerbPath (y .radius) (now path) ≡ shownPath (now s)) × (storeOwn (now s) ≤ length (now own)) ⌝ }
     ensures { λ r. ⌜ RestSays (now (s .entry)) r ⌝ }
 {
     let n = h.n;
@@ -63,7 +64,7 @@ fn check_points(path: &[i32], s: &[u8], h: Header, y: Style, own: &mut [i32]) ->
 
 // The rows past the header, by the form.
 fn check_shown(path: &[i32], s: &[u8], h: Header, own: &mut [i32]) -> Checked
-    requires { ⌜ Head (now s) h × (lentPath (h .form) (now path) ≡ shownPath (now s)) × (36908 ≤ length (now own)) ⌝ }
+    requires { ⌜ Head (now s) h × (lentPath (h .form) (now path) ≡ shownPath (now s)) × (storeOwn (now s) ≤ length (now own)) ⌝ }
     ensures { λ r. ⌜ RestSays (now (s .entry)) r ⌝ }
 {
     let form = h.form;
@@ -75,7 +76,7 @@ fn check_shown(path: &[i32], s: &[u8], h: Header, own: &mut [i32]) -> Checked
 
 // The rows past the header. The vertices are left in `path`.
 pub fn check_rest(s: &[u8], h: Header, path: &mut [i32], own: &mut [i32]) -> Checked
-    requires { ⌜ Head (now s) h × (12288 ≤ length (now path)) × (36908 ≤ length (now own)) ⌝ }
+    requires { ⌜ Head (now s) h × (storePath (now s) ≤ length (now path)) × (storeOwn (now s) ≤ length (now own)) ⌝ }
     ensures says { λ r. ⌜ RestSays (now (s .entry)) r ⌝ }
     ensures path { λ r. ⌜ take (lentWidth (h .form) * h .n) (now (path .exit)) ≡ spread (lentNumbers (h .form)) (shownPath (now (s .entry))) ⌝ }
 {

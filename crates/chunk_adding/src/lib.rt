@@ -1,5 +1,6 @@
 // Add: an outline that is checked as reading checks it, stored in a chunk under a key.
 use checking::check;
+use checking::sizes::is_small;
 use chunk_table::damage::damaged;
 use chunks::Done;
 use chunks::putting::put_outline;
@@ -12,6 +13,7 @@ ghost use mathlib.Core.Bool.{false};
 ghost use Prim.Native.Nat.{_≤_};
 ghost use lib.ListN.{length};
 ghost use Rattle.checking.specs.StoreChecks.{Sound};
+ghost use Rattle.checking.specs.StoreRoom.{storePath, storeOwn};
 ghost use Rattle.chunk_table.specs.Tables.{damagedIn};
 ghost use Rattle.chunk_adding.specs.Adding.{AddsOutline};
 
@@ -29,7 +31,7 @@ fn add_outline(chunk: &mut [u8], key: u32, store: &[u8], h: Header) -> Done
 
 // The outline of a store into a chunk; `path` and `own` are room to check it in.
 pub fn add_with(chunk: &mut [u8], key: u32, store: &[u8], path: &mut [i32], own: &mut [i32]) -> Done
-    requires { ⌜ (12288 ≤ length (now path)) × (36908 ≤ length (now own)) ⌝ }
+    requires { ⌜ (storePath (now store) ≤ length (now path)) × (storeOwn (now store) ≤ length (now own)) ⌝ }
     ensures { λ r. ⌜ AddsOutline (now (chunk .entry)) key (now (store .entry)) r (now (chunk .exit)) ⌝ }
 {
     if damaged(chunk) {
@@ -46,7 +48,12 @@ pub fn add_with(chunk: &mut [u8], key: u32, store: &[u8], path: &mut [i32], own:
 pub fn add(chunk: &mut [u8], key: u32, store: &[u8]) -> Done
     ensures { λ r. ⌜ AddsOutline (now (chunk .entry)) key (now (store .entry)) r (now (chunk .exit)) ⌝ }
 {
+    if is_small(store) {
+        let mut path = [0i32; 192];
+        let mut own = [0i32; 592];
+        return add_with(chunk, key, store, &mut path, &mut own);
+    }
     let mut path = [0i32; 12288];
-    let mut own = [0i32; 36908];
+    let mut own = [0i32; 8272];
     add_with(chunk, key, store, &mut path, &mut own)
 }

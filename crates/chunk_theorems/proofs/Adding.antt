@@ -20,7 +20,9 @@ use Rattle.chunk_theorems.specs.AfterAdd.{AddedIsSound, AddedIsFound, Ad
 use Rattle.chunk_table.proofs.Below.{test}
 use Rattle.chunk_laws.proofs.AfterPut.{put-is-sound, put-is-found, putting-keeps}
 use Rattle.chunk_adding.proofs.Added.{reply-damaged, reply-rows, as-put-reply, as-put}
-use Rattle.chunk_theorems.proofs.StorePassed.{rows-zero, store-coded, passed-long, passed-due, outline-some}
+use Rattle.replies.proofs.Rows.{rows-zero}
+use Rattle.checking.proofs.StorePassed.{store-coded, passed-long}
+use Rattle.chunk_theorems.proofs.StorePassed.{passed-due, outline-some}
 
 -- after 0: the table was sound, and the chunk is that of putting the outline's own bytes
 record AddedIs (c : List ℕ) (key : ℕ) (s : List ℕ) : Type 0 where

@@ -11,7 +11,6 @@ use lib.ListN.{length, drop, replicate, length-append, length-replicate, length-
 use Rattle.contacts.specs.declared.Vertex.{Vertex}
 use Rattle.replies.specs.Replies.{Reply, roomRow, written}
 use Rattle.outline.specs.Stores.{lengthIn, bodyBytesIn}
-use Rattle.heading.specs.StoreRows.{lengthRow, storeRows}
 use Rattle.editing.specs.Replacing.{replacedOf, replaceReply, replaceOut}
 use Rattle.keeping.specs.Keeping.{writeRows}
 use Rattle.chunk_table.specs.Tables.{entryCount, keyEntry, offsetIn, sizeIn, damagedIn}
@@ -19,6 +18,7 @@ use Rattle.chunks.specs.Calls.{findReply}
 use Rattle.chunks.specs.Chunks.{partIn}
 use Rattle.chunk_laws.specs.Theorems.{foundBytes}
 use Rattle.chunk_theorems.specs.InChunks.{replacedIn, OthersKept, BodiesKept}
+use Rattle.checking.proofs.StorePassed.{passed-long}
 use Rattle.editing.proofs.Changed.{replace-none}
 use Rattle.theorems.proofs.ThroughCalls.{bytes-kept}
 use Rattle.chunk_table.proofs.Below.{test, less-or}
@@ -34,12 +34,12 @@ fits-length : (made s : List ℕ) → length made ≤ length s → length (made 
 fits-length made s h = omega (arith, length-append made (drop (length made) s), length-drop (length made) s)
 
 replaced-fits : (s : List ℕ) (i : ℕ) (v : Vertex) → replaceReply s i v .0 ≡ 0 → length (replacedOf s i v ++ replicate (lengthIn s - length (replacedOf s i v)) 0) ≤ length s
-unfolding storeRows lengthRow writeRows roomRow replacedOf
+unfolding writeRows roomRow replacedOf
 replaced-fits s i v h =
     let r = replace-none s i v h in
     let new = replacedOf s i v in
-    let a : lengthIn s ≤ length s = ltb-false _ _ (r .1 .1 .1 .1 .1 .1 .0) in
-    let b : length new ≤ length s = ltb-false _ _ (r .1 .1 .1 .1 .1 .1 .1 .1 .1 .1 .1 .1 .1 .0) in
+    let a : lengthIn s ≤ length s = passed-long s (r .0) in
+    let b : length new ≤ length s = ltb-false _ _ (r .1 .1 .1 .1 .1 .1 .0) in
     omega (arith, length-append new (replicate (lengthIn s - length new) 0), length-replicate {A = ℕ} (lengthIn s - length new) 0)
 
 pub replaced-length : (s : List ℕ) (i : ℕ) (v : Vertex) → length (replaceOut s i v) ≡ length s

@@ -44,7 +44,7 @@ agree-cons s i v vs true false e f more =
     let inl : i < length s = ltb-true i (length s) e in
     rw (← agree-differs s i i v refl inl (eqb-false (getD s i 0) v f), drop-cons s i 0 inl, firstDiffering, f) (agree-stays s i (suc i) vs (omega arith) ∙ sym (add-zero i))
 
-agree-first : (s : List ℕ) (i : ℕ) (vs : List ℕ) → over (agree s) i i vs ≡ i + firstDiffering (drop i s) vs
+pub agree-first : (s : List ℕ) (i : ℕ) (vs : List ℕ) → over (agree s) i i vs ≡ i + firstDiffering (drop i s) vs
 unfolding over firstDiffering
 agree-first s i [] = nothing (drop i s)
   where

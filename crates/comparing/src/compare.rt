@@ -22,6 +22,7 @@ ghost use Rattle.plane.specs.Directions.{UnitLong};
 ghost use Rattle.contacts.specs.Bounds.{Inside};
 ghost use Rattle.variable_stroke.specs.Bounds.{AroundWalk};
 ghost use Rattle.paths.specs.Paths.{pathOf, Within};
+ghost use Rattle.own_room.specs.OwnRoom.{stepNumbers, StepRoom};
 ghost use Rattle.outline.specs.Layout.{strokeBytes, frontBytes};
 ghost use Rattle.words.specs.Words.{fourBytes};
 ghost use Rattle.outline.specs.Outlines.{postWords, entryOf};
@@ -81,7 +82,7 @@ pub fn compare_step(
     own: &mut [i32],
     s: &[u8],
 ) -> Comparing
-    requires { ⌜ UnitLong t × AroundWalk (c .walk) × Inside v × (36908 ≤ length (now own)) ⌝ }
+    requires { ⌜ UnitLong t × AroundWalk (c .walk) × Inside v × StepRoom t (length (now own)) ⌝ }
     requires { ⌜ (c .entry + strokeBytes edition < 2 ^ 64) × (c .at + 147632 < 2 ^ 64) ⌝ }
     ensures { λ r. ⌜ StepAgrees edition t (now (s .entry)) c v post r ⌝ }
 {
@@ -104,7 +105,7 @@ pub fn compare_step(
 
 // The end: the closing count and the closing edges.
 pub fn compare_end(c: Comparing, t: Vector, own: &mut [i32], s: &[u8]) -> Compared
-    requires { ⌜ UnitLong t × AroundWalk (c .walk) × (36908 ≤ length (now own)) ⌝ }
+    requires { ⌜ UnitLong t × AroundWalk (c .walk) × StepRoom t (length (now own)) ⌝ }
     requires { ⌜ (c .entry + 4 < 2 ^ 64) × (c .at + 147632 < 2 ^ 64) ⌝ }
     ensures { λ r. ⌜ EndAgrees t (now (s .entry)) c r ⌝ }
 {
@@ -125,7 +126,7 @@ pub fn compare(
     own: &mut [i32],
     s: &[u8],
 ) -> Compared
-    requires { ⌜ (n ≡ length (pathOf (now path))) × Within grade (pathOf (now path)) × (36908 ≤ length (now own)) ⌝ }
+    requires { ⌜ (n ≡ length (pathOf (now path))) × Within grade (pathOf (now path)) × (stepNumbers grade ≤ length (now own)) ⌝ }
     requires { ⌜ frontBytes (Stroke edition) n ≤ length (now s) ⌝ }
     ensures { λ r. ⌜ Agrees (now (s .entry)) (Stroke edition) grade (postsOf (Stroke edition) n (now (s .entry))) (pathOf (now (path .entry))) r ⌝ }
 {

@@ -10,6 +10,6 @@ use Rattle.drawing.specs.Drawing.{drawReply, PathIsDrawn}
 
 pub path-is-drawn : PathIsDrawn
 unfolding drawReply
-path-is-drawn path g room h w s l =
+path-is-drawn path g room h low w s l =
     let m = length (edgesOf g (pathOf path)) in
-    rows-append (pathRows path g) _ _ ∙ within-fits path h w .passed _ ∙ empty-passes (length (pathOf path)) m _ (0, m) s ∙ room-enough (4 * m) room m (0, m) l
+    rows-append (pathRows path g) _ _ ∙ within-fits path h low w .passed _ ∙ empty-passes (length (pathOf path)) m _ (0, m) s ∙ room-enough (4 * m) room m (0, m) l

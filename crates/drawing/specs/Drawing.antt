@@ -1,4 +1,4 @@
--- Document 01, "Replies, tested in this order": draw, its answer and its promise. Its row 18 is document 02's, request 9.
+-- Document 01, "Replies, tested in this order": draw, its answer and its promise. Its row 18 is document 02's, request 9, and grade 1 is retired by request 13.
 use mathlib.Core.List.{List, [], _∷_, _++_}
 use Prim.Native.Nat.{ℕ, _*_, _%_, _≤_, _<_}
 use lib.IntN.{ℤ}
@@ -32,9 +32,9 @@ pub record Draws (path : List ℤ) (grade : ℕ) (out₀ : List ℤ) (answer : D
   pub reply : replyOfDrawn answer ≡ drawReply path grade (length out₀)
   pub out : out₁ ≡ drawOut path grade out₀
 
--- Numbers lent as triples, a grade, vertices within the limits, an edge where there are vertices (document 02, request 9) and room enough are drawn.
+-- Numbers lent as triples, a grade from 2 on, vertices within the limits, an edge where there are vertices (document 02, request 9) and room enough are drawn.
 abbrev pub PathIsDrawn : Type 0
-PathIsDrawn = (path : List ℤ) (g room : ℕ) → length path % 3 ≡ 0 → Within g (pathOf path) → (0 < length (pathOf path) → 0 < length (edgesOf g (pathOf path)))
+PathIsDrawn = (path : List ℤ) (g room : ℕ) → length path % 3 ≡ 0 → 2 ≤ g → Within g (pathOf path) → (0 < length (pathOf path) → 0 < length (edgesOf g (pathOf path)))
     → 4 * length (edgesOf g (pathOf path)) ≤ room
     → drawReply path g room ≡ (0, length (edgesOf g (pathOf path)))
 

@@ -15,6 +15,8 @@ ghost use lib.ListN.{length, take};
 ghost use Rattle.runs.specs.Runs.{over, put};
 ghost use Rattle.plane.specs.Directions.{UnitLong, stepOf};
 ghost use Rattle.folds.specs.Folds.{Holds, Edgewise, RoomFor, Sizes, Unfolds};
+ghost use Rattle.paths.specs.Paths.{pathOf};
+ghost use Rattle.paths.specs.Stands.{Begins};
 ghost use Rattle.replies.specs.Checks.{Fits};
 ghost use Rattle.drawing.specs.Drawing.{Draws};
 
@@ -60,21 +62,22 @@ fn put_held(own: &[i32], m: usize, pen: Pen, out: &mut [i32]) -> usize
     m
 }
 
-// A path's edges by way of own numbers: they hold the first steps, as many as they can, and the rest is counted; where there are edges and room
-// for them, what the own numbers hold is put there and the rest is drawn.
-fn draw_through(
+// The edges of a path, the first steps of which own numbers hold: the rest is counted; where there are edges and room for them, what the own numbers hold
+// is put there and the rest is drawn.
+fn draw_begun(
     path: &[i32],
     n: usize,
     grade: u32,
     pen: Pen,
-    own: &mut [i32],
+    begun: Stand,
+    own: &[i32],
     out: &mut [i32],
 ) -> Drawn
     requires { ⌜ Fits (now path) grade n × (0 < n) × (length (now own) ≤ 2 ^ 32) × (pen .step ≡ stepOf grade) ⌝ }
+    requires { ⌜ Begins pen (pathOf (now path)) (now own) begun ⌝ }
     ensures { λ r. ⌜ Draws (now (path .entry)) grade (now (out .entry)) r (now (out .exit)) ⌝ }
 {
     let t = pen.step;
-    let begun = begin(path, n, pen, own);
     let size = held_size(own, begun.at, pen);
     let walk = begun.walk;
     let rest = Stand {
@@ -93,6 +96,22 @@ fn draw_through(
     put_held(own, begun.at, pen, out);
     let done = go_on(path, n, t, rest, out);
     Drawn::Edges(done / 4)
+}
+
+// A path's edges by way of own numbers, which hold as many of its first steps as they can.
+fn draw_through(
+    path: &[i32],
+    n: usize,
+    grade: u32,
+    pen: Pen,
+    own: &mut [i32],
+    out: &mut [i32],
+) -> Drawn
+    requires { ⌜ Fits (now path) grade n × (0 < n) × (length (now own) ≤ 2 ^ 32) × (pen .step ≡ stepOf grade) ⌝ }
+    ensures { λ r. ⌜ Draws (now (path .entry)) grade (now (out .entry)) r (now (out .exit)) ⌝ }
+{
+    let begun = begin(path, n, pen, own);
+    draw_begun(path, n, grade, pen, begun, own, out)
 }
 
 // About how many numbers a path comes to: only speed leans on it.
@@ -117,7 +136,69 @@ fn held(n: usize, about: usize, folding: bool) -> usize
     about
 }
 
-// The edges of a path that passed its rows, by way of as many own numbers as likely hold it.
+// The edges of a path by way of some thousands of own numbers.
+fn draw_middle(path: &[i32], n: usize, grade: u32, pen: Pen, need: usize, out: &mut [i32]) -> Drawn
+    requires { ⌜ Fits (now path) grade n × (0 < n) × (pen .step ≡ stepOf grade) ⌝ }
+    ensures { λ r. ⌜ Draws (now (path .entry)) grade (now (out .entry)) r (now (out .exit)) ⌝ }
+{
+    if need <= 1024 {
+        let mut own = [0i32; 1024];
+        return draw_through(path, n, grade, pen, &mut own, out);
+    }
+    let mut own = [0i32; 8192];
+    draw_through(path, n, grade, pen, &mut own, out)
+}
+
+// The same by way of 32,768.
+fn draw_many(path: &[i32], n: usize, grade: u32, pen: Pen, out: &mut [i32]) -> Drawn
+    requires { ⌜ Fits (now path) grade n × (0 < n) × (pen .step ≡ stepOf grade) ⌝ }
+    ensures { λ r. ⌜ Draws (now (path .entry)) grade (now (out .entry)) r (now (out .exit)) ⌝ }
+{
+    let mut own = [0i32; 32768];
+    draw_through(path, n, grade, pen, &mut own, out)
+}
+
+// The same by way of 131,072.
+fn draw_most(path: &[i32], n: usize, grade: u32, pen: Pen, out: &mut [i32]) -> Drawn
+    requires { ⌜ Fits (now path) grade n × (0 < n) × (pen .step ≡ stepOf grade) ⌝ }
+    ensures { λ r. ⌜ Draws (now (path .entry)) grade (now (out .entry)) r (now (out .exit)) ⌝ }
+{
+    let mut own = [0i32; 131072];
+    draw_through(path, n, grade, pen, &mut own, out)
+}
+
+// The same by way of the one or the other, whose room the compiler lays over each other.
+fn draw_long(path: &[i32], n: usize, grade: u32, pen: Pen, need: usize, out: &mut [i32]) -> Drawn
+    requires { ⌜ Fits (now path) grade n × (0 < n) × (pen .step ≡ stepOf grade) ⌝ }
+    ensures { λ r. ⌜ Draws (now (path .entry)) grade (now (out .entry)) r (now (out .exit)) ⌝ }
+{
+    if need <= 28672 {
+        return draw_many(path, n, grade, pen, out);
+    }
+    draw_most(path, n, grade, pen, out)
+}
+
+// The same by way of as many as likely hold the path. Where a few do not hold it, it calls itself for more. The compiler lays no large arrays into a function
+// that calls itself, so that a short path does not pay for a long one's room.
+fn draw_sized(path: &[i32], n: usize, grade: u32, pen: Pen, need: usize, out: &mut [i32]) -> Drawn
+    requires { ⌜ Fits (now path) grade n × (0 < n) × (pen .step ≡ stepOf grade) ⌝ }
+    ensures { λ r. ⌜ Draws (now (path .entry)) grade (now (out .entry)) r (now (out .exit)) ⌝ }
+{
+    if need <= 256 {
+        let mut own = [0i32; 256];
+        let begun = begin(path, n, pen, &mut own);
+        if begun.next < n {
+            return draw_sized(path, n, grade, pen, 1024, out);
+        }
+        return draw_begun(path, n, grade, pen, begun, &own, out);
+    }
+    if need <= 8192 {
+        return draw_middle(path, n, grade, pen, need, out);
+    }
+    draw_long(path, n, grade, pen, need, out)
+}
+
+// The edges of a path that passed its rows.
 pub fn draw_path(path: &[i32], n: usize, grade: u32, out: &mut [i32]) -> Drawn
     requires { ⌜ Fits (now path) grade n ⌝ }
     ensures { λ r. ⌜ Draws (now (path .entry)) grade (now (out .entry)) r (now (out .exit)) ⌝ }
@@ -133,20 +214,7 @@ pub fn draw_path(path: &[i32], n: usize, grade: u32, out: &mut [i32]) -> Drawn
         folds: folding,
     };
     let need = held(n, about, folding);
-    if need <= 1024 {
-        let mut own = [0i32; 1024];
-        return draw_through(path, n, grade, pen, &mut own, out);
-    }
-    if need <= 8192 {
-        let mut own = [0i32; 8192];
-        return draw_through(path, n, grade, pen, &mut own, out);
-    }
-    if need <= 28672 {
-        let mut own = [0i32; 32768];
-        return draw_through(path, n, grade, pen, &mut own, out);
-    }
-    let mut own = [0i32; 131072];
-    draw_through(path, n, grade, pen, &mut own, out)
+    draw_sized(path, n, grade, pen, need, out)
 }
 
 // The edges of a path, four numbers an edge, into lent numbers.

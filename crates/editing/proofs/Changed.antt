@@ -2,28 +2,27 @@
 use mathlib.Core.Path.{_≡_, refl, sym, ap, subst, _∙_}
 use mathlib.Core.Bool.{true}
 use mathlib.Core.List.{List, [], _∷_, _++_, append-assoc}
-use Prim.Native.Nat.{ℕ, zero, suc, _-_, _<_}
-use native.Mathlib.Nat.{le-antisymm}
+use Prim.Native.Nat.{ℕ, zero, suc, _-_, _≤_, _<_}
 use native.Mathlib.Omega.{arith}
 use lib.ListN.{length, drop, set, replicate, length-set}
-use borrow.Author.Tests.{ltb-false, not-false}
+use borrow.Author.Tests.{not-false}
 use Rattle.contacts.specs.Limits.{allowedOf, firstOutside}
 use Rattle.contacts.specs.declared.Vertex.{Vertex}
 use Rattle.locality.proofs.Locality.{earlier-kept, reach-kept}
 use Rattle.outline.specs.Outlines.{edgesFor, outlineBytes}
 use Rattle.outline.specs.Theorems.{Suits, Formed}
-use Rattle.outline.specs.Stores.{editionIn, editionOf, formIn, gradeIn, countIn, lengthIn, pathIn, postsIn, bodiesIn, soundOf}
-use Rattle.heading.specs.StoreRows.{editionRow, kindRow, unfitRow, styleRowIn, lengthRow, soundRow, storeRows}
-use Rattle.replies.specs.StyleRows.{styleRow}
+use Rattle.outline.specs.Stores.{editionIn, editionOf, formIn, gradeIn, lengthIn, pathIn, postsIn, bodiesIn, soundOf}
+use Rattle.heading.specs.StoreRows.{storeRows}
 use Rattle.checking.specs.OtherKind.{otherKindRow}
 use Rattle.checking.proofs.OtherKinds.{not-other}
-use Rattle.replies.specs.Replies.{gradeRow, countRow, outsideRow, indexRow, newRow, emptyRow, roomRow, written}
+use Rattle.checking.proofs.StorePassed.{store-coded, passed-sound, passed-within}
+use Rattle.replies.specs.Replies.{Reply, drawGradeRow, indexRow, newRow, emptyRow, roomRow, written}
 use Rattle.editing.specs.Replacing.{replacedOf, replaceReply, replaceOut, ReplacedIsSound, StoreKept}
 use Rattle.paths.specs.Paths.{edgesOf, Within}
 use Rattle.keeping.specs.Keeping.{writeRows}
-use Rattle.replies.proofs.Rows.{NoneHold, first-none, either, empty-not}
-use Rattle.contacts.proofs.Allowed.{inside-first, outside-most}
-use Rattle.outline.proofs.ReadBack.{path-count-in, sound-suits, suits-other, kept-is-sound}
+use Rattle.replies.proofs.Rows.{NoneHold, first-none, rows-zero, grade-from, empty-not}
+use Rattle.contacts.proofs.Allowed.{inside-first}
+use Rattle.outline.proofs.ReadBack.{sound-suits, suits-other, kept-is-sound}
 use Rattle.outline.specs.declared.Form.{Form}
 use Rattle.outline.specs.declared.Form.the-variants.{Stroke}
 
@@ -38,23 +37,19 @@ outside-set (u ∷ vs) (suc k) v a h = rw (inside-first u vs h .0, firstOutside)
 -- ---- the call
 
 pub replace-none : (s : List ℕ) (k : ℕ) (v : Vertex) → replaceReply s k v .0 ≡ 0
-    → NoneHold (storeRows s ++ (otherKindRow s ∷ indexRow (length (pathIn s)) k ∷ newRow v k ∷ writeRows (formIn s) (gradeIn s) (postsIn s) (set (pathIn s) k v) (length s)))
-unfolding replaceReply storeRows editionRow kindRow unfitRow gradeRow styleRowIn styleRow countRow lengthRow outsideRow soundRow otherKindRow indexRow newRow writeRows emptyRow roomRow
-replace-none s k v h = first-none _ _ (refl, (refl, (refl, (refl, (refl, (refl, (refl, (refl, (refl, (refl, (refl, (refl, (refl, (refl, tt)))))))))))))) h
+    → NoneHold (storeRows s)
+    × NoneHold (otherKindRow s ∷ drawGradeRow (gradeIn s) ∷ indexRow (length (pathIn s)) k ∷ newRow v k ∷ writeRows (formIn s) (gradeIn s) (postsIn s) (set (pathIn s) k v) (length s))
+unfolding replaceReply otherKindRow drawGradeRow indexRow newRow writeRows emptyRow roomRow
+replace-none s k v h =
+    let r = rows-zero (storeRows s) _ _ (store-coded s) h in
+    (r .0, first-none _ _ (refl, (refl, (refl, (refl, (refl, (refl, tt)))))) (ap (λ (x : Reply). x .0) (sym (r .1)) ∙ h))
 
 -- the store's own path is within the limits, and so is it with a vertex that is allowed
 pub within-store : (s : List ℕ) (k : ℕ) (v : Vertex) → replaceReply s k v .0 ≡ 0 → Within (gradeIn s) (pathIn s)
-unfolding storeRows gradeRow countRow outsideRow
-within-store s k v h =
-    let r = replace-none s k v h in
-    let g = either _ _ (r .1 .1 .1 .0) in
-    let vs = pathIn s in
-    record {
-      low = ltb-false _ _ (g .0);
-      high = ltb-false _ _ (g .1);
-      count = omega (arith, path-count-in s, ltb-false 4096 (countIn s) (r .1 .1 .1 .1 .1 .0));
-      inside = le-antisymm (outside-most vs) (ltb-false _ _ (r .1 .1 .1 .1 .1 .1 .1 .0));
-    }
+within-store s k v h = passed-within s (replace-none s k v h .0)
+
+pub grade-store : (s : List ℕ) (k : ℕ) (v : Vertex) → replaceReply s k v .0 ≡ 0 → 2 ≤ gradeIn s
+grade-store s k v h = grade-from (gradeIn s) (replace-none s k v h .1 .1 .0) .0
 
 pub within-changed : (g : ℕ) (vs : List Vertex) (k : ℕ) (v : Vertex) → Within g vs → allowedOf v ≡ true → Within g (set vs k v)
 within-changed g vs k v h a = record {
@@ -65,17 +60,15 @@ within-changed g vs k v h a = record {
 }
 
 pub within-set : (s : List ℕ) (k : ℕ) (v : Vertex) → replaceReply s k v .0 ≡ 0 → Within (gradeIn s) (set (pathIn s) k v)
-unfolding storeRows newRow
-within-set s k v h = within-changed (gradeIn s) (pathIn s) k v (within-store s k v h) (not-false _ (replace-none s k v h .1 .1 .1 .1 .1 .1 .1 .1 .1 .1 .1 .0))
+unfolding newRow
+within-set s k v h = within-changed (gradeIn s) (pathIn s) k v (within-store s k v h) (not-false _ (replace-none s k v h .1 .1 .1 .1 .0))
 
 pub sound-store : (s : List ℕ) (k : ℕ) (v : Vertex) → replaceReply s k v .0 ≡ 0 → soundOf s ≡ true
-unfolding storeRows soundRow
-sound-store s k v h = not-false _ (replace-none s k v h .1 .1 .1 .1 .1 .1 .1 .1 .0)
+sound-store s k v h = passed-sound s (replace-none s k v h .0)
 
 -- the store is of a stroke
 pub stroke-store : (s : List ℕ) (k : ℕ) (v : Vertex) → replaceReply s k v .0 ≡ 0 → formIn s ≡ Stroke (editionOf (editionIn s))
-unfolding storeRows
-stroke-store s k v h = not-other s (replace-none s k v h .1 .1 .1 .1 .1 .1 .1 .1 .1 .0)
+stroke-store s k v h = not-other s (replace-none s k v h .1 .0)
 
 -- its posts suit its path, and the path with the new vertex
 pub formed-store : (s : List ℕ) (k : ℕ) (v : Vertex) → replaceReply s k v .0 ≡ 0 → Formed (Stroke (editionOf (editionIn s))) (gradeIn s) (postsIn s) (pathIn s)
@@ -89,8 +82,8 @@ formed-set s k v h =
 
 -- the path with the new vertex has an edge where it has a vertex
 pub some-set : (s : List ℕ) (k : ℕ) (v : Vertex) → replaceReply s k v .0 ≡ 0 → 0 < length (set (pathIn s) k v) → 0 < length (edgesOf (gradeIn s) (set (pathIn s) k v))
-unfolding storeRows writeRows
-some-set s k v h = subst (λ (f : Form). 0 < length (set (pathIn s) k v) → 0 < length (edgesFor f (gradeIn s) (set (pathIn s) k v))) (stroke-store s k v h) (empty-not _ _ (replace-none s k v h .1 .1 .1 .1 .1 .1 .1 .1 .1 .1 .1 .1 .0))
+unfolding writeRows
+some-set s k v h = subst (λ (f : Form). 0 < length (set (pathIn s) k v) → 0 < length (edgesFor f (gradeIn s) (set (pathIn s) k v))) (stroke-store s k v h) (empty-not _ _ (replace-none s k v h .1 .1 .1 .1 .1 .0))
 
 pub out-is : (s : List ℕ) (k : ℕ) (v : Vertex) → replaceReply s k v .0 ≡ 0
     → replaceOut s k v ≡ outlineBytes (formIn s) (gradeIn s) (postsIn s) (set (pathIn s) k v) ++ (replicate (lengthIn s - length (replacedOf s k v)) 0 ++ drop (length (replacedOf s k v ++ replicate (lengthIn s - length (replacedOf s k v)) 0)) s)

@@ -1,4 +1,4 @@
--- What is kept takes another vertex: it passes the rows of a store, and the four after them fail. Assumes nothing.
+-- What is kept at grade 2 or above takes another vertex: it passes the rows of a store, and those after them fail. Assumes nothing.
 use mathlib.Core.Path.{_≡_, _∙_}
 use mathlib.Core.Bool.{true}
 use mathlib.Core.List.{List, [], _∷_, _++_}
@@ -11,8 +11,8 @@ use Rattle.paths.specs.Paths.{edgesOf}
 use Rattle.outline.specs.Outlines.{outlineBytes}
 use Rattle.outline.proofs.ReadBack.{form-back, grade-back, posts-again, vertices-back}
 use Rattle.outline.specs.declared.Form.the-variants.{Stroke}
-use Rattle.replies.specs.Replies.{Reply, Row, firstRow, indexRow, newRow}
-use Rattle.replies.proofs.Rows.{first-skip, empty-fails, room-enough}
+use Rattle.replies.specs.Replies.{Reply, Row, firstRow, drawGradeRow, indexRow, newRow}
+use Rattle.replies.proofs.Rows.{first-skip, grade-drawn, empty-fails, room-enough}
 use Rattle.keeping.specs.Keeping.{writeRows}
 use Rattle.heading.specs.StoreRows.{storeRows}
 use Rattle.checking.specs.OtherKind.{otherKindRow}
@@ -26,10 +26,10 @@ change-none n k v rows last h a = rw (lt-leb n k h, firstRow, a, firstRow)
 
 pub kept-is-replaced : KeptIsReplaced
 unfolding replaceReply replacedOf writeRows
-kept-is-replaced d g ps vs rest k v w h a e l =
+kept-is-replaced d g ps vs rest k v w low h a e l =
     let s = outlineBytes (Stroke d) g ps vs ++ rest in
     let us = set vs k v in
     let m = length (outlineBytes (Stroke d) g ps us) in
     first-skip (storeRows s) _ _ (store-none (Stroke d) g ps vs rest w)
     ∙ first-skip (otherKindRow s ∷ []) _ _ (kept-stroke d g ps vs rest w, tt)
-    ∙ rw (form-back (Stroke d) g ps vs rest w, grade-back (Stroke d) g ps vs rest w, posts-again (Stroke d) g ps vs rest w, vertices-back (Stroke d) g ps vs rest w) (change-none (length vs) k v _ _ h a ∙ empty-fails (length us) (length (edgesOf g us)) _ (0, m) e ∙ room-enough m (length s) m (0, m) l)
+    ∙ rw (form-back (Stroke d) g ps vs rest w, grade-back (Stroke d) g ps vs rest w, posts-again (Stroke d) g ps vs rest w, vertices-back (Stroke d) g ps vs rest w) (first-skip (drawGradeRow g ∷ []) _ _ (grade-drawn low (w .0 .high), tt) ∙ change-none (length vs) k v _ _ h a ∙ empty-fails (length us) (length (edgesOf g us)) _ (0, m) e ∙ room-enough m (length s) m (0, m) l)

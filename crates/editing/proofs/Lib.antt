@@ -1,6 +1,6 @@
 -- The crate's own laws.
 pub mod Changed
 pub mod KeptReplaced
-pub mod KnownStore
 pub mod NewVertex
 pub mod OneReplacing
+pub mod StoreRefused

@@ -7,7 +7,7 @@ use native.Mathlib.Numerals.{add-one, add-two}
 use native.Mathlib.Omega.{arith}
 use borrow.Author.Tests.{le-leb, lt-leb}
 use lib.IntN.{ℤ}
-use lib.ListN.{length, set, take, drop, length-set, length-take, take-append-drop}
+use lib.ListN.{length, set, take, drop, length-set, take-append-drop}
 use lib.Seq.{take-at}
 use mir.Syntax.{w32}
 use mir.Val.{toZ, ofZ}
@@ -22,22 +22,23 @@ use Rattle.paths.specs.Paths.{pathOf, vertexNumbers, pathNumbers, Within}
 use Rattle.contacts.specs.declared.Vertex.{Vertex}
 use Rattle.outline.specs.Layout.{frontBytes, lengthOf}
 use Rattle.outline.proofs.ShownPosts.{posts-front}
-use Rattle.outline.specs.Stores.{formIn, gradeIn, countIn, lengthIn, pathIn, postsOf, postsIn}
-use Rattle.replies.specs.Replies.{firstRow, indexRow, newRow}
+use Rattle.outline.specs.Stores.{formIn, gradeIn, lengthIn, pathIn, postsOf, postsIn}
+use Rattle.replies.specs.Replies.{firstRow, drawGradeRow, indexRow, newRow}
 use Rattle.heading.specs.StoreRows.{storeRows}
 use Rattle.editing.specs.Replacing.{replacedOf, replaceReply, replaceOut, replyOfReplaced, Replaces}
 use Rattle.replies.specs.Refusals.{refusalOf}
 use Rattle.keeping.specs.Keeping.{writeRows, replyOfKept}
 use Rattle.replies.specs.Checks.{Fits}
 use Rattle.keeping.specs.Rewriting.{Rewrites}
-use Rattle.editing.specs.Known.{Known}
-use Rattle.replies.specs.declared.Refusal.the-variants.{NoVertex, Outside}
+use Rattle.checking.specs.Known.{Known}
+use Rattle.checking.proofs.KnownStore.{known-count, known-long}
+use Rattle.replies.specs.declared.Refusal.the-variants.{Grade, NoVertex, Outside}
 use Rattle.keeping.specs.declared.Kept.{Kept}
 use Rattle.editing.specs.declared.Replaced.{Replaced}
 use Rattle.editing.specs.declared.Replaced.the-variants as replaced
-use Rattle.outline.proofs.ReadBack.{path-count-in, numbers-count}
+use Rattle.outline.proofs.ReadBack.{numbers-count}
 use Rattle.editing.proofs.Changed.{within-changed}
-use Rattle.replies.proofs.Rows.{rows-append, refused-written}
+use Rattle.replies.proofs.Rows.{rows-append, first-holds, first-skip, grade-drawn, grade-retired, refused-written}
 use Rattle.replies.proofs.PathChecks.{within-fits}
 use Rattle.heading.proofs.Shown.{path-back}
 use Rattle.outline.proofs.Parts.{radius-size}
@@ -85,40 +86,40 @@ vertex-put {at = at} v h ex ey er p q s =
 
 -- ---- within the limits
 
--- the numbers of a path within the limits pass the rows of a path
-numbers-fit : (g : ℕ) (vs : List Vertex) (p : List ℤ) {n : ℕ} → p ≡ pathNumbers vs → n ≡ length vs → Within g vs → Fits p g n
-numbers-fit g vs p {n} e en h =
+-- the numbers of a path within the limits pass the rows of a path, from grade 2 on
+numbers-fit : (g : ℕ) (vs : List Vertex) (p : List ℤ) {n : ℕ} → p ≡ pathNumbers vs → n ≡ length vs → 2 ≤ g → Within g vs → Fits p g n
+numbers-fit g vs p {n} e en low h =
     let q : pathOf p ≡ vs = ap pathOf e ∙ path-back vs in
     let l : length p ≡ 3 * length vs = ap length e ∙ numbers-count vs in
     let c : length p / 3 ≡ n = omega arith in
-    rw c at (within-fits p {g = g} (omega arith) (rw q h))
+    rw c at (within-fits p {g = g} (omega arith) low (rw q h))
 
 -- ---- the rows of a change
 
 module _ {s : List ℕ} {p : List ℤ} {d : Edition} {g n m : ℕ} (h : Known s p d g n m) where
-  known-count : length (pathIn s) ≡ n
-  known-count = path-count-in s ∙ sym (h .vertices)
-
-  known-long : lengthOf (Stroke d) n m ≡ lengthIn s
-  unfolding lengthIn
-  known-long = rw (h .vertices, h .edges, h .form)
-
-  -- what the code's sums and parts need
-  pub known-few : (n ≤ 4096) × (3 * n ≤ length p) × (lengthOf (Stroke d) n m ≤ length s)
-  known-few = (omega (arith, known-count, h .within .count), omega (arith, ap length (h .path), numbers-count (pathIn s), known-count, length-take (3 * n) p), omega (arith, known-long, h .long))
-
   -- the posts as the code has them
   pub known-posts : {l : List ℕ} (l₀ : List ℕ) {k : ℕ} → l ≡ postsOf (Stroke d) n s ++ drop n l₀ → k ≡ n → take k l ≡ postsIn s
   unfolding postsIn
   known-posts l₀ q z = posts-front d s n l₀ q z ∙ (λ i. postsOf (sym (h .form) i) (h .vertices i) s)
 
   pub known-front : frontBytes (Stroke d) n ≤ length s
-  known-front = omega (arith, known-long, h .long)
+  known-front = omega (arith, known-long h, h .long)
 
-  module _ (k : ℕ) (v : Vertex) where
+  pub change-retired : (k : ℕ) (v : Vertex) → g < 2 → Replaces s k v (replaced.Refused (Grade g)) s
+  unfolding replyOfReplaced refusalOf replaceReply replaceOut drawGradeRow
+  change-retired k v l =
+      let e : drawGradeRow (gradeIn s) .0 ≡ true = rw (h .grade) at (grade-retired l) in
+      let r : (3, g) ≡ replaceReply s k v =
+      ap (λ (x : ℕ). (3, x)) (h .grade) ∙ sym (rows-append (storeRows s) _ _ ∙ h .passed _ ∙ h .other _ _ ∙ first-holds (drawGradeRow (gradeIn s)) _ _ e) in
+      record { reply = r; store = refused-written (Grade g) _ s r }
+
+  module _ (low : 2 ≤ g) (k : ℕ) (v : Vertex) where
+    drawn : drawGradeRow (gradeIn s) .0 ≡ false
+    drawn = rw (h .grade) at (grade-drawn low (rw (h .grade) (h .within .high)))
+
     after : replaceReply s k v ≡ firstRow (indexRow n k ∷ newRow v k ∷ writeRows (formIn s) (gradeIn s) (postsIn s) (set (pathIn s) k v) (length s)) (0, length (replacedOf s k v))
     unfolding replaceReply
-    after = rows-append (storeRows s) _ _ ∙ h .passed _ ∙ h .other _ _ ∙ rw known-count
+    after = rows-append (storeRows s) _ _ ∙ h .passed _ ∙ h .other _ _ ∙ first-skip (drawGradeRow (gradeIn s) ∷ []) _ _ (drawn, tt) ∙ rw (known-count h)
 
     pub change-none : n ≤ k → Replaces s k v (replaced.Refused (NoVertex k)) s
     unfolding replyOfReplaced refusalOf replaceOut firstRow indexRow
@@ -130,13 +131,13 @@ module _ {s : List ℕ} {p : List ℤ} {d : Edition} {g n m : ℕ} (h : Known s 
       -- the path's numbers with the vertex put among them
       module _ {p₁ : List ℤ} {e w : ℕ} (q : Runs put vertexNumbers p (3 * k) (v ∷ []) p₁ w) (ee : e ≡ 3 * n) where
         changed : take e p₁ ≡ pathNumbers (set (pathIn s) k v)
-        changed = numbers-changed (pathIn s) k v p (sym known-count) (h .path) l q ee
+        changed = numbers-changed (pathIn s) k v p (sym (known-count h)) (h .path) l q ee
 
         pub changed-path : pathOf (take e p₁) ≡ set (pathIn s) k v
         changed-path = ap pathOf changed ∙ path-back (set (pathIn s) k v)
 
         pub changed-fits : allowedOf v ≡ true → Fits (take e p₁) g n
-        changed-fits a = numbers-fit g (set (pathIn s) k v) (take e p₁) changed (sym known-count ∙ sym (length-set (pathIn s) k v)) (within-changed g (pathIn s) k v (rw (h .grade) (h .within)) a)
+        changed-fits a = numbers-fit g (set (pathIn s) k v) (take e p₁) changed (sym (known-count h) ∙ sym (length-set (pathIn s) k v)) low (within-changed g (pathIn s) k v (rw (h .grade) (h .within)) a)
 
       pub change-outside : allowedOf v ≡ false → Replaces s k v (replaced.Refused (Outside k)) s
       unfolding replyOfReplaced refusalOf replaceOut firstRow indexRow newRow
@@ -148,6 +149,6 @@ module _ {s : List ℕ} {p : List ℤ} {d : Edition} {g n m : ℕ} (h : Known s 
           → Rewrites s (Stroke d) g qs us old a s′ → replyOfReplaced r ≡ replyOfKept a → Replaces s k v r s′
       unfolding replacedOf replaceOut firstRow indexRow newRow
       change-done qs us {a = a} {s′ = s′} al eq eu eo w e =
-          let w′ : Rewrites s (formIn s) (gradeIn s) (postsIn s) (set (pathIn s) k v) (lengthIn s) a s′ = rw (h .form) (rw (h .grade, eq, eu, eo ∙ known-long) at w) in
+          let w′ : Rewrites s (formIn s) (gradeIn s) (postsIn s) (set (pathIn s) k v) (lengthIn s) a s′ = rw (h .form) (rw (h .grade, eq, eu, eo ∙ known-long h) at w) in
           let f : replyOfKept a ≡ replaceReply s k v = w′ .reply ∙ sym (after ∙ rw (lt-leb n k l, firstRow, al, firstRow)) in
           record { reply = e ∙ f; store = rw f at (w′ .bytes) }

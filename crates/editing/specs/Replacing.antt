@@ -1,5 +1,5 @@
--- Document 01, "Replies, tested in this order": replace, its answer, its promise, and how far a replacement reaches. Its rows 12 and 18 are document
--- 02's, requests 3 and 9, and its editions and posts request 11.
+-- Document 01, "Replies, tested in this order": replace, its answer, its promise, and how far a replacement reaches. Its rows 12, 3 and 18 are
+-- document 02's, requests 3, 13 and 9, and its editions and posts request 11.
 use mathlib.Core.Bool.{true}
 use mathlib.Core.List.{List, _∷_, _++_}
 use Prim.Native.Nat.{ℕ, _+_, _-_, _≤_, _<_}
@@ -13,7 +13,7 @@ use Rattle.outline.specs.Stores.{formIn, gradeIn, lengthIn, pathIn, postsIn, so
 use Rattle.outline.specs.declared.Edition.{Edition}
 use Rattle.outline.specs.declared.Form.the-variants.{Stroke}
 use mathlib.Core.Path.{_≡_}
-use Rattle.replies.specs.Replies.{Reply, firstRow, indexRow, newRow, written}
+use Rattle.replies.specs.Replies.{Reply, firstRow, drawGradeRow, indexRow, newRow, written}
 use Rattle.keeping.specs.Keeping.{writeRows}
 use Rattle.editing.specs.declared.Replaced.{Replaced}
 use Rattle.editing.specs.declared.Replaced.the-variants as replaced
@@ -29,7 +29,9 @@ replacedOf s k v = outlineBytes (formIn s) (gradeIn s) (postsIn s) (set (pathIn 
 
 unfoldable pub replaceReply : List ℕ → ℕ → Vertex → Reply
 replaceReply s k v =
-    firstRow (storeRows s ++ (otherKindRow s ∷ indexRow (length (pathIn s)) k ∷ newRow v k ∷ writeRows (formIn s) (gradeIn s) (postsIn s) (set (pathIn s) k v) (length s))) (0, length (replacedOf s k v))
+    firstRow
+    (storeRows s ++ (otherKindRow s ∷ drawGradeRow (gradeIn s) ∷ indexRow (length (pathIn s)) k ∷ newRow v k ∷ writeRows (formIn s) (gradeIn s) (postsIn s) (set (pathIn s) k v) (length s)))
+    (0, length (replacedOf s k v))
 
 -- A replaced outline that shrank is followed by zeros up to its old end.
 unfoldable pub replaceOut : List ℕ → ℕ → Vertex → List ℕ
@@ -45,10 +47,10 @@ pub record Replaces (store₀ : List ℕ) (index : ℕ) (v : Vertex) (answer : R
   pub reply : replyOfReplaced answer ≡ replaceReply store₀ index v
   pub store : store₁ ≡ replaceOut store₀ index v
 
--- An outline, whatever bytes stand after it, takes any vertex within the limits in place of one of its own, where at least one edge is left and there is
--- room for the outline with it.
+-- An outline of grade 2 or above, whatever bytes stand after it, takes any vertex within the limits in place of one of its own, where at least one edge is
+-- left and there is room for the outline with it.
 abbrev pub KeptIsReplaced : Type 0
-KeptIsReplaced = (e : Edition) (g : ℕ) (ps : List ℕ) (vs : List Vertex) (rest : List ℕ) (k : ℕ) (v : Vertex) → Formed (Stroke e) g ps vs → k < length vs → allowedOf v ≡ true
+KeptIsReplaced = (e : Edition) (g : ℕ) (ps : List ℕ) (vs : List Vertex) (rest : List ℕ) (k : ℕ) (v : Vertex) → Formed (Stroke e) g ps vs → 2 ≤ g → k < length vs → allowedOf v ≡ true
     → 0 < length (edgesOf g (set vs k v)) → length (outlineBytes (Stroke e) g ps (set vs k v)) ≤ length (outlineBytes (Stroke e) g ps vs ++ rest)
     → replaceReply (outlineBytes (Stroke e) g ps vs ++ rest) k v ≡ (0, length (outlineBytes (Stroke e) g ps (set vs k v)))
 

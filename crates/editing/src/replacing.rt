@@ -21,9 +21,11 @@ ghost use Rattle.whole.specs.Sizes.{Size};
 ghost use Rattle.runs.specs.Runs.{Runs, put};
 ghost use Rattle.contacts.specs.Bounds.{Inside};
 ghost use Rattle.paths.specs.Paths.{vertexNumbers};
+ghost use Rattle.own_room.specs.OwnRoom.{stepNumbers};
 ghost use Rattle.keeping.specs.Keeping.{replyOfKept};
+ghost use Rattle.checking.specs.StoreRoom.{storePath, storePosts, storeOwn};
 ghost use Rattle.editing.specs.Replacing.{replyOfReplaced, Replaces};
-ghost use Rattle.editing.specs.Known.{Known, Passed};
+ghost use Rattle.checking.specs.Known.{Known, Passed};
 
 // A coordinate as it stands among a path's numbers.
 fn narrow(z: i64) -> i32
@@ -57,7 +59,7 @@ fn replaced(k: Kept) -> Replaced
     }
 }
 
-// A store that passed its rows, its vertices at the front of `path`: its edition stays, and every post.
+// A stroke's store that passed its rows and whose grade is drawn at, its vertices at the front of `path`: its edition stays, and every post.
 pub fn change(
     store: &mut [u8],
     edition: Edition,
@@ -70,7 +72,7 @@ pub fn change(
     posts: &mut [u32],
     own: &mut [i32],
 ) -> Replaced
-    requires { ⌜ Known (now store) (now path) edition grade n m × (4096 ≤ length (now posts)) × (36908 ≤ length (now own)) ⌝ }
+    requires { ⌜ Known (now store) (now path) edition grade n m × (n ≤ length (now posts)) × (stepNumbers grade ≤ length (now own)) × (2 ≤ grade) ⌝ }
     ensures { λ r. ⌜ Replaces (now (store .entry)) index v r (now (store .exit)) ⌝ }
 {
     if n <= index {
@@ -95,6 +97,28 @@ pub fn change(
     ))
 }
 
+// A stroke's store that passed its rows, unless its grade is retired.
+fn change_drawn(
+    store: &mut [u8],
+    edition: Edition,
+    grade: u32,
+    n: usize,
+    m: usize,
+    index: usize,
+    v: Vertex,
+    path: &mut [i32],
+    posts: &mut [u32],
+    own: &mut [i32],
+) -> Replaced
+    requires { ⌜ Known (now store) (now path) edition grade n m × (n ≤ length (now posts)) × (stepNumbers grade ≤ length (now own)) ⌝ }
+    ensures { λ r. ⌜ Replaces (now (store .entry)) index v r (now (store .exit)) ⌝ }
+{
+    if grade < 2 {
+        return Replaced::Refused(Refusal::Grade(grade));
+    }
+    change(store, edition, grade, n, m, index, v, path, posts, own)
+}
+
 // A store that passed its rows, if it is of a stroke.
 fn change_stroke(
     store: &mut [u8],
@@ -105,13 +129,13 @@ fn change_stroke(
     posts: &mut [u32],
     own: &mut [i32],
 ) -> Replaced
-    requires { ⌜ Passed (now store) (now path) h × (4096 ≤ length (now posts)) × (36908 ≤ length (now own)) ⌝ }
+    requires { ⌜ Passed (now store) (now path) h × (storePosts (now store) ≤ length (now posts)) × (storeOwn (now store) ≤ length (now own)) ⌝ }
     ensures { λ r. ⌜ Replaces (now (store .entry)) index v r (now (store .exit)) ⌝ }
 {
     let form = h.form;
     match form {
         Form::Kerb(_) => Replaced::Refused(Refusal::OtherKind(KERB_KIND)),
-        Form::Stroke(e) => change(store, e, h.grade, h.n, h.m, index, v, path, posts, own),
+        Form::Stroke(e) => change_drawn(store, e, h.grade, h.n, h.m, index, v, path, posts, own),
     }
 }
 
@@ -124,7 +148,7 @@ pub fn replace_with(
     posts: &mut [u32],
     own: &mut [i32],
 ) -> Replaced
-    requires { ⌜ (12288 ≤ length (now path)) × (4096 ≤ length (now posts)) × (36908 ≤ length (now own)) ⌝ }
+    requires { ⌜ (storePath (now store) ≤ length (now path)) × (storePosts (now store) ≤ length (now posts)) × (storeOwn (now store) ≤ length (now own)) ⌝ }
     ensures { λ r. ⌜ Replaces (now (store .entry)) index v r (now (store .exit)) ⌝ }
 {
     let checked = check(store, path, own);

@@ -2,7 +2,7 @@
 use mathlib.Core.Path.{_≡_, refl, sym, ap, _∙_}
 use mathlib.Core.Bool.{Bool, true, false, true≢false}
 use mathlib.Core.List.{List, [], _∷_}
-use Prim.Native.Nat.{ℕ, _*_, _/_, _≤_, _<_}
+use Prim.Native.Nat.{ℕ, _*_, _≤_, _<_}
 use native.Mathlib.Omega.{arith}
 use borrow.Author.Tests.{ltb-true, ltb-false, le-leb, lt-leb}
 use lib.Dec.{eqb, ltb, leb}
@@ -11,7 +11,7 @@ use lib.ListN.{length, getD, take, drop}
 use Rattle.runs.specs.Runs.{spread, over, put}
 use Rattle.runs.proofs.Written.{over-whole}
 use Rattle.paths.specs.Paths.{pathOf, Within}
-use Rattle.outline.specs.Stores.{pathIn}
+use Rattle.outline.specs.Stores.{gradeIn, pathIn}
 use Rattle.replies.specs.Replies.{Reply, firstRow, roomRow, written}
 use Rattle.replies.specs.Refusals.{refusalOf}
 use Rattle.replies.specs.declared.Refusal.{Refusal}
@@ -27,12 +27,12 @@ use Rattle.checking.proofs.OtherKinds.{stroke-passes, kerb-refused}
 use Rattle.kerb.specs.declared.Style.{Style}
 use Rattle.outline.specs.declared.Edition.{Edition}
 use Rattle.outline.specs.declared.Form.the-variants.{Stroke, Kerb}
-use Rattle.editing.specs.Known.{Passed}
-use Rattle.editing.proofs.KnownStore.{known}
-use Rattle.editing.proofs.NewVertex.{known-few}
+use Rattle.checking.specs.Known.{Passed}
+use Rattle.checking.proofs.KnownStore.{known, known-few, known-edges}
 use Rattle.reasons.specs.Reasons.{whysOf}
 use Rattle.reasons.specs.Lists.{whyNumbers, unnamed, explanationOf}
 use Rattle.reasons.proofs.Listed.{whys-five}
+use Rattle.reasons.proofs.OneReason.{one-reason}
 use Rattle.reasons.specs.declared.Why.{Why}
 use Rattle.reasons.specs.declared.Explanation.{Explanation}
 use Rattle.reasons.specs.declared.Explanation.the-variants as explanation
@@ -89,26 +89,22 @@ module _ {vs : List Why} (ws : List Why) (k : ℕ) (same : vs ≡ ws) {x : Expla
       let g : leb (length ws) k ≡ true = le-leb (length ws) k (lost ws k (sym e ∙ told-as)) in
       record { reply = rw (g, firstRow); why = rw g refl }
 
--- ---- the row of the room
+-- ---- the row of the room, of m edges
 
-module _ {vs : List Why} (ws : List Why) (out : List ℕ) (same : vs ≡ ws) {n : ℕ} (e : n ≡ 5 * length vs) where
-  pub lists-short : length out < n → ListsIn ws out (listed.Refused (NoRoom (n / 5))) out
+module _ (ws : List Why) (out : List ℕ) {m : ℕ} (e : m ≡ length ws) where
+  pub lists-short : length out < 5 * m → ListsIn ws out (listed.Refused (NoRoom m)) out
   unfolding replyOfListed refusalOf
   lists-short h =
-      let s : length vs ≡ length ws = ap length same in
-      let t : n / 5 ≡ length ws = omega (arith, e, s) in
-      let f : (5, n / 5) ≡ firstRow (roomRow (5 * length ws) (length out) (length ws) ∷ []) (0, length ws) = ap (λ (k : ℕ). (5, k)) t ∙ sym (room-short (5 * length ws) (length out) (length ws) (0, length ws) (omega (arith, e, s, h))) in
-      record { reply = f; out = refused-written (NoRoom (n / 5)) (spread whyNumbers ws) out f }
+      let f : (5, m) ≡ firstRow (roomRow (5 * length ws) (length out) (length ws) ∷ []) (0, length ws) = ap (λ (k : ℕ). (5, k)) e ∙ sym (room-short (5 * length ws) (length out) (length ws) (0, length ws) (omega (arith, e, h))) in
+      record { reply = f; out = refused-written (NoRoom m) (spread whyNumbers ws) out f }
 
-  pub lists-done : {m : ℕ} {out₁ : List ℕ} → n ≤ length out → m ≡ 5 * length vs → out₁ ≡ over put out 0 (drop 0 (spread whyNumbers vs)) → ListsIn ws out (listed.Edges (m / 5)) out₁
+  pub lists-done : {vs : List Why} {out₁ : List ℕ} → vs ≡ ws → 5 * m ≤ length out → out₁ ≡ over put out 0 (drop 0 (spread whyNumbers vs)) → ListsIn ws out (listed.Edges m) out₁
   unfolding replyOfListed
-  lists-done {m} h em eo =
-      let s : length vs ≡ length ws = ap length same in
-      let t : m / 5 ≡ length ws = omega (arith, em, s) in
-      let f : (0, m / 5) ≡ firstRow (roomRow (5 * length ws) (length out) (length ws) ∷ []) (0, length ws) = ap (λ (k : ℕ). (0, k)) t ∙ sym (room-enough (5 * length ws) (length out) (length ws) (0, length ws) (omega (arith, e, s, h))) in
+  lists-done same h eo =
+      let f : (0, m) ≡ firstRow (roomRow (5 * length ws) (length out) (length ws) ∷ []) (0, length ws) = ap (λ (k : ℕ). (0, k)) e ∙ sym (room-enough (5 * length ws) (length out) (length ws) (0, length ws) (omega (arith, e, h))) in
       record {
         reply = f;
-        out = eo ∙ ap (λ (us : List Why). over put out 0 (spread whyNumbers us)) same ∙ over-whole out (spread whyNumbers ws) (omega (arith, e, s, h, whys-five ws)) ∙ done-written (m / 5) (spread whyNumbers ws) out f;
+        out = eo ∙ ap (λ (us : List Why). over put out 0 (spread whyNumbers us)) same ∙ over-whole out (spread whyNumbers ws) (omega (arith, e, h, whys-five ws)) ∙ done-written m (spread whyNumbers ws) out f;
       }
 
 -- ---- the path at the front of the numbers p: e is what the code has for how many numbers that is
@@ -172,6 +168,11 @@ module _ {s : List ℕ} {p : List ℤ} {h : Header} (a : Passed s p h) where
     whys-shown : whysOf (h .grade) (pathOf (take (3 * h .n) p)) ≡ whysIn s
     unfolding whysIn
     whys-shown = rw (shown, a .sound .head .grade)
+
+    -- as many edges as its header says
+    pub edges-held : h .m ≡ length (whysOf (h .grade) (pathOf (take (3 * h .n) p)))
+    unfolding whysIn
+    edges-held = known-edges (known a e) ∙ sym (one-reason (gradeIn s) (pathIn s)) ∙ ap length (sym whys-shown)
 
     pub explains-passed : {r : Explained} (k : ℕ) → ExplainsIn (whysOf (h .grade) (pathOf (take (3 * h .n) p))) k r → Explains s k r
     unfolding explainReply explainWhy

@@ -14,7 +14,7 @@ ghost use Prim.Native.Nat.{_*_, _≤_};
 ghost use lib.ListN.{length, take};
 ghost use Rattle.paths.specs.Paths.{pathOf, Within};
 ghost use Rattle.reasons.specs.Reasons.{whysOf};
-ghost use Rattle.editing.specs.Known.{Passed};
+ghost use Rattle.checking.specs.Known.{Passed};
 ghost use Rattle.explaining.specs.Explaining.{ExplainsIn, Explains, ListsIn, Lists};
 
 // What explaining an edge came to: its own number and why it is there, or why not.
@@ -68,7 +68,7 @@ pub fn explain_with(
     own: &mut [i32],
     one: &mut [usize],
 ) -> Explained
-    requires { ⌜ (12288 ≤ length (now path)) × (36908 ≤ length (now own)) × (length (now one) ≡ 5) ⌝ }
+    requires { ⌜ (12288 ≤ length (now path)) × (8272 ≤ length (now own)) × (length (now one) ≡ 5) ⌝ }
     ensures { λ r. ⌜ Explains (now (store .entry)) edge r ⌝ }
 {
     let checked = check(store, path, own);
@@ -78,19 +78,19 @@ pub fn explain_with(
     }
 }
 
-// The row of the room, over the path of n vertices at the front of `path`.
-fn list_in(path: &[i32], n: usize, grade: u32, out: &mut [usize]) -> Listed
+// The row of the room, over the path of n vertices and m edges at the front of `path`.
+fn list_in(path: &[i32], n: usize, m: usize, grade: u32, out: &mut [usize]) -> Listed
     requires { ⌜ (3 * n ≤ length (now path)) × (n ≡ length (pathOf (take (3 * n) (now path)))) × Within grade (pathOf (take (3 * n) (now path))) ⌝ }
+    requires { ⌜ m ≡ length (whysOf grade (pathOf (take (3 * n) (now path)))) ⌝ }
     ensures { λ r. ⌜ ListsIn (whysOf grade (pathOf (take (3 * n) (now (path .entry))))) (now (out .entry)) r (now (out .exit)) ⌝ }
 {
-    let end = 3 * n;
-    let mut nowhere = [0usize; 0];
-    let numbers = list_path(&path[0..end], n, grade, 0, &mut nowhere);
+    let numbers = 5 * m;
     if out.len() < numbers {
-        return Listed::Refused(Refusal::NoRoom(numbers / 5));
+        return Listed::Refused(Refusal::NoRoom(m));
     }
-    let done = list_path(&path[0..end], n, grade, 0, out);
-    Listed::Edges(done / 5)
+    let end = 3 * n;
+    list_path(&path[0..end], n, grade, 0, out);
+    Listed::Edges(m)
 }
 
 // The same of a store that passed its rows, its vertices at the front of `path`, if it is of a stroke.
@@ -101,13 +101,13 @@ fn list_stroke(store: &[u8], path: &[i32], h: Header, out: &mut [usize]) -> List
     let form = h.form;
     match form {
         Form::Kerb(_) => Listed::Refused(Refusal::OtherKind(KERB_KIND)),
-        Form::Stroke(_) => list_in(path, h.n, h.grade, out),
+        Form::Stroke(_) => list_in(path, h.n, h.m, h.grade, out),
     }
 }
 
 // Why each edge of a store is there, five numbers an edge, into lent numbers; `path` and `own` are room to check it in.
 pub fn list_with(store: &[u8], out: &mut [usize], path: &mut [i32], own: &mut [i32]) -> Listed
-    requires { ⌜ (12288 ≤ length (now path)) × (36908 ≤ length (now own)) ⌝ }
+    requires { ⌜ (12288 ≤ length (now path)) × (8272 ≤ length (now own)) ⌝ }
     ensures { λ r. ⌜ Lists (now (store .entry)) (now (out .entry)) r (now (out .exit)) ⌝ }
 {
     let checked = check(store, path, own);
@@ -122,7 +122,7 @@ pub fn explain(store: &[u8], edge: usize) -> Explained
     ensures { λ r. ⌜ Explains (now (store .entry)) edge r ⌝ }
 {
     let mut path = [0i32; 12288];
-    let mut own = [0i32; 36908];
+    let mut own = [0i32; 8272];
     let mut one = [0usize; 5];
     explain_with(store, edge, &mut path, &mut own, &mut one)
 }
@@ -132,6 +132,6 @@ pub fn list(store: &[u8], out: &mut [usize]) -> Listed
     ensures { λ r. ⌜ Lists (now (store .entry)) (now (out .entry)) r (now (out .exit)) ⌝ }
 {
     let mut path = [0i32; 12288];
-    let mut own = [0i32; 36908];
+    let mut own = [0i32; 8272];
     list_with(store, out, &mut path, &mut own)
 }

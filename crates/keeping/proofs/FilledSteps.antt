@@ -1,7 +1,7 @@
 -- A step's edges from numbers of our own into an outline: their count into the table, their words into the bodies. Assumes nothing.
 use mathlib.Core.Path.{_≡_, refl, ap}
 use mathlib.Core.List.{List, [], _∷_}
-use Prim.Native.Nat.{ℕ, _+_, _/_, _≤_, _<_}
+use Prim.Native.Nat.{ℕ, _+_, _*_, _/_, _≤_, _<_}
 use lib.IntN.{ℤ}
 use lib.ListN.{length, getD, take, drop}
 use Rattle.runs.specs.Runs.{Runs, put}
@@ -26,11 +26,11 @@ use Rattle.outline.proofs.OwnNumbers.{own-count, own-words}
 use Rattle.outline.proofs.Parts.{table-step, table-end, bodies-step, bodies-end}
 use Rattle.keeping.proofs.TwoRuns.{apart-as, apart-first, both-of, Filled, filled-start, filled-as, filled-step, filled-done}
 
-pub end-filled : {l₀ l₁ l₂ : List ℕ} {o₀ o₁ : List ℤ} {es : List Edge} {n a b c e : ℕ} → Most 9227 es → 36908 ≤ length o₀ → Runs put edgeNumbers o₀ 0 es o₁ n
+pub end-filled : {l₀ l₁ l₂ : List ℕ} {o₀ o₁ : List ℤ} {es : List Edge} {n a b c e : ℕ} → Most 9227 es → 4 * length es ≤ length o₀ → Runs put edgeNumbers o₀ 0 es o₁ n
     → Runs put fourBytes l₀ a (n / 4 ∷ []) l₁ c → Runs put fourBytes l₁ b (wordsOf (take n o₁)) l₂ e → Both l₀ a (length es ∷ []) b (bodyWords es) l₂ e
 end-filled m h o p q = both-of (runs-as (ap (λ (k : ℕ). k ∷ []) (own-count m o)) p) (runs-as (own-words m o h) q)
 
-pub step-filled : {l₀ l₁ l₂ : List ℕ} {o₀ o₁ : List ℤ} (e : Edition) {t : Vector} {f : Filling} (v : Vertex) (post : ℕ) {r : Walked} {a b : ℕ} → 36908 ≤ length o₀ → Walks o₀ 0 t (f .walk) v o₁ r
+pub step-filled : {l₀ l₁ l₂ : List ℕ} {o₀ o₁ : List ℤ} (e : Edition) {t : Vector} {f : Filling} (v : Vertex) (post : ℕ) {r : Walked} {a b : ℕ} → 4 * length (emittedOf t (f .walk) v) ≤ length o₀ → Walks o₀ 0 t (f .walk) v o₁ r
     → Runs put fourBytes l₀ (f .table) (entryOf e v post (r .at / 4)) l₁ a → Runs put fourBytes l₁ (f .bodies) (wordsOf (take (r .at) o₁)) l₂ b
     → StepFills e t l₀ f v post l₂ (record { walk = r .walk; table = a; bodies = b })
 step-filled e {t = t} {f} v post h o p q =

@@ -14,34 +14,37 @@ use Rattle.paths.specs.Paths.{pathOf, edgesOf, Within}
 use Rattle.outline.specs.Outlines.{outlineBytes}
 use Rattle.outline.specs.declared.Edition.the-variants.{Second}
 use Rattle.outline.specs.declared.Form.the-variants.{Stroke}
-use Rattle.replies.specs.Replies.{Reply, triplesRow, gradeRow, countRow, outsideRow, emptyRow, roomRow, pathRows, written}
-use Rattle.replies.proofs.Rows.{NoneHold, first-none, either, rows-append, empty-passes, empty-not, room-enough}
+use Rattle.replies.specs.Replies.{Reply, triplesRow, drawGradeRow, countRow, outsideRow, emptyRow, roomRow, pathRows, written}
+use Rattle.replies.proofs.Rows.{NoneHold, first-none, rows-append, grade-from, empty-passes, empty-not, room-enough}
 use Rattle.replies.proofs.PathChecks.{within-fits}
 use Rattle.keeping.specs.Keeping.{writeRows, keepReply, keepOut, PathIsKept, OneOutlineKept}
 
 pub path-is-kept : PathIsKept
 unfolding keepReply writeRows
-path-is-kept path ps g room h w s l =
+path-is-kept path ps g room h low w s l =
     let m = length (outlineBytes (Stroke Second) g ps (pathOf path)) in
-    rows-append (pathRows path g) _ _ ∙ within-fits path h w .passed _ ∙ empty-passes (length (pathOf path)) (length (edgesOf g (pathOf path))) _ (0, m) s ∙ room-enough m room m (0, m) l
+    rows-append (pathRows path g) _ _ ∙ within-fits path h low w .passed _ ∙ empty-passes (length (pathOf path)) (length (edgesOf g (pathOf path))) _ (0, m) s ∙ room-enough m room m (0, m) l
 
 -- ---- after the reply 0
 
 module _ (path : List ℤ) (ps : List ℕ) (g room : ℕ) (h : keepReply path ps g room .0 ≡ 0) where
   keep-none : NoneHold (pathRows path g ++ writeRows (Stroke Second) g ps (pathOf path) room)
-  unfolding keepReply writeRows pathRows triplesRow gradeRow countRow outsideRow emptyRow roomRow
+  unfolding keepReply writeRows pathRows triplesRow drawGradeRow countRow outsideRow emptyRow roomRow
   keep-none = first-none _ _ (refl, (refl, (refl, (refl, (refl, (refl, tt)))))) h
 
   pub keep-triples : length path % 3 ≡ 0
   unfolding pathRows triplesRow
   keep-triples = eqb-true _ _ (not-false _ (keep-none .0))
 
+  pub keep-graded : (2 ≤ g) × (g ≤ 8)
+  unfolding pathRows
+  keep-graded = grade-from g (keep-none .1 .0)
+
   pub keep-within : Within g (pathOf path)
-  unfolding pathRows gradeRow countRow outsideRow
+  unfolding pathRows countRow outsideRow
   keep-within =
       let r = keep-none in
-      let e = either _ _ (r .1 .0) in
-      record { low = ltb-false _ _ (e .0); high = ltb-false _ _ (e .1); count = ltb-false _ _ (r .1 .1 .0); inside = le-antisymm (outside-most (pathOf path)) (ltb-false _ _ (r .1 .1 .1 .0)) }
+      record { low = omega (arith, keep-graded .0); high = keep-graded .1; count = ltb-false _ _ (r .1 .1 .0); inside = le-antisymm (outside-most (pathOf path)) (ltb-false _ _ (r .1 .1 .1 .0)) }
 
   keep-room : length (outlineBytes (Stroke Second) g ps (pathOf path)) ≤ room
   unfolding pathRows writeRows roomRow
@@ -60,7 +63,7 @@ one-outline-kept path ps g m a b e l =
     let h : keepReply path ps g (length a) .0 ≡ 0 = ap (λ (r : Reply). r .0) e in
     let made = outlineBytes (Stroke Second) g ps (pathOf path) in
     let kept : (room : ℕ) → length made ≤ room → keepReply path ps g room ≡ (0, length made) =
-    λ room. path-is-kept path ps g room (keep-triples path ps g (length a) h) (keep-within path ps g (length a) h) (keep-some path ps g (length a) h) in
+    λ room. path-is-kept path ps g room (keep-triples path ps g (length a) h) (keep-graded path ps g (length a) h .0) (keep-within path ps g (length a) h) (keep-some path ps g (length a) h) in
     let n : length made ≡ m = ap (λ (r : Reply). r .1) (sym (kept (length a) (keep-room path ps g (length a) h)) ∙ e) in
     let f : keepReply path ps g (length b) ≡ (0, m) = kept (length b) (omega arith) ∙ ap (λ (x : ℕ). (0, x)) n in (
       f,

@@ -1,5 +1,5 @@
--- Document 01, "Replies, tested in this order": keep, its answer and its promise. Its row 18 is document 02's, request 9, and its edition
--- and posts request 11.
+-- Document 01, "Replies, tested in this order": keep, its answer and its promise. Its row 18 is document 02's, request 9, its edition
+-- and posts request 11, and grade 1 is retired by request 13.
 use mathlib.Core.List.{List, [], _∷_, _++_}
 use Prim.Native.Nat.{ℕ, _%_, _≤_, _<_}
 use lib.IntN.{ℤ}
@@ -45,9 +45,9 @@ pub record Keeps (path : List ℤ) (posts : List ℕ) (grade : ℕ) (out₀ : Li
   pub reply : replyOfKept answer ≡ keepReply path posts grade (length out₀)
   pub out : out₁ ≡ keepOut path posts grade out₀
 
--- Numbers lent as triples, a grade, vertices within the limits, an edge where there are vertices and room enough are kept.
+-- Numbers lent as triples, a grade from 2 on, vertices within the limits, an edge where there are vertices and room enough are kept.
 abbrev pub PathIsKept : Type 0
-PathIsKept = (path : List ℤ) (ps : List ℕ) (g room : ℕ) → length path % 3 ≡ 0 → Within g (pathOf path) → (0 < length (pathOf path) → 0 < length (edgesOf g (pathOf path)))
+PathIsKept = (path : List ℤ) (ps : List ℕ) (g room : ℕ) → length path % 3 ≡ 0 → 2 ≤ g → Within g (pathOf path) → (0 < length (pathOf path) → 0 < length (edgesOf g (pathOf path)))
     → length (outlineBytes (Stroke Second) g ps (pathOf path)) ≤ room
     → keepReply path ps g room ≡ (0, length (outlineBytes (Stroke Second) g ps (pathOf path)))
 

@@ -24,6 +24,7 @@ ghost use Rattle.variable_stroke.specs.Chains.{emittedOf, closeOf};
 ghost use Rattle.paths.specs.Paths.{pathOf, bodiesOf, edgesOf, Within};
 ghost use Rattle.contacts.specs.Bounds.{Inside};
 ghost use Rattle.variable_stroke.specs.Bounds.{AroundWalk};
+ghost use Rattle.own_room.specs.OwnRoom.{stepNumbers, StepRoom};
 ghost use Rattle.outline.specs.Layout.{headerBytes, frontBytes};
 ghost use Rattle.words.specs.Words.{fourBytes};
 ghost use Rattle.outline.specs.Outlines.{headerOf, postWords, entryOf, tableOf, bodyWords, outlineWords};
@@ -93,7 +94,7 @@ fn fill_step(
     own: &mut [i32],
     s: &mut [u8],
 ) -> Filling
-    requires { ⌜ UnitLong t × AroundWalk (f .walk) × Inside b × (36908 ≤ length (now own)) ⌝ }
+    requires { ⌜ UnitLong t × AroundWalk (f .walk) × Inside b × StepRoom t (length (now own)) ⌝ }
     requires { ⌜ Apart (f .table) (entryOf edition b post (length (emittedOf t (f .walk) b))) (f .bodies) (bodyWords (emittedOf t (f .walk) b)) ⌝ }
     ensures { λ r. ⌜ StepFills edition t (now (s .entry)) f b post (now (s .exit)) r ⌝ }
 {
@@ -112,7 +113,7 @@ fn fill_step(
 
 // The number of closing edges, and the closing body.
 fn fill_end(f: Filling, t: Vector, own: &mut [i32], s: &mut [u8]) -> usize
-    requires { ⌜ UnitLong t × AroundWalk (f .walk) × (36908 ≤ length (now own)) ⌝ }
+    requires { ⌜ UnitLong t × AroundWalk (f .walk) × StepRoom t (length (now own)) ⌝ }
     requires { ⌜ Apart (f .table) (length (closeOf t (f .walk)) ∷ []) (f .bodies) (bodyWords (closeOf t (f .walk))) ⌝ }
     ensures { λ r. ⌜ Both (now (s .entry)) (f .table) (length (closeOf t (f .walk)) ∷ []) (f .bodies) (bodyWords (closeOf t (f .walk))) (now (s .exit)) r ⌝ }
 {
@@ -134,7 +135,7 @@ fn fill_from(
     s: &mut [u8],
 ) -> usize
     requires { ⌜ (n ≡ length (pathOf (now path))) × (0 < n) × (firstOutside (pathOf (now path)) ≡ length (pathOf (now path))) ⌝ }
-    requires { ⌜ UnitLong t × AroundWalk (start .walk) × (36908 ≤ length (now own)) ⌝ }
+    requires { ⌜ UnitLong t × AroundWalk (start .walk) × StepRoom t (length (now own)) ⌝ }
     requires { ⌜ Apart (start .table) (tableFrom edition t (start .walk) (drop 1 (now posts)) (drop 1 (pathOf (now path)))) (start .bodies) (wordsFrom t (start .walk) (drop 1 (pathOf (now path)))) ⌝ }
     ensures { λ r. ⌜ Both (now (s .entry)) (start .table) (tableFrom edition t (start .walk) (drop 1 (now (posts .entry))) (drop 1 (pathOf (now (path .entry))))) (start .bodies) (wordsFrom t (start .walk) (drop 1 (pathOf (now (path .entry))))) (now (s .exit)) r ⌝ }
 {
@@ -159,7 +160,7 @@ fn fill(
     own: &mut [i32],
     s: &mut [u8],
 ) -> usize
-    requires { ⌜ (n ≡ length (pathOf (now path))) × Within grade (pathOf (now path)) × (36908 ≤ length (now own)) ⌝ }
+    requires { ⌜ (n ≡ length (pathOf (now path))) × Within grade (pathOf (now path)) × (stepNumbers grade ≤ length (now own)) ⌝ }
     ensures { λ r. ⌜ Both (now (s .entry)) (headerBytes (Stroke edition)) (tableOf edition (now (posts .entry)) (pathOf (now (path .entry))) (bodiesOf grade (pathOf (now (path .entry))))) (frontBytes (Stroke edition) n) (bodyWords (edgesOf grade (pathOf (now (path .entry))))) (now (s .exit)) r ⌝ }
 {
     let base = front(Form::Stroke(edition), n);
@@ -190,7 +191,7 @@ pub fn outline(
     own: &mut [i32],
     s: &mut [u8],
 ) -> usize
-    requires { ⌜ (n ≡ length (pathOf (now path))) × Within grade (pathOf (now path)) × (36908 ≤ length (now own)) ⌝ }
+    requires { ⌜ (n ≡ length (pathOf (now path))) × Within grade (pathOf (now path)) × (stepNumbers grade ≤ length (now own)) ⌝ }
     requires { ⌜ m ≡ length (edgesOf grade (pathOf (now path))) ⌝ }
     ensures { λ r. ⌜ Runs put fourBytes (now (s .entry)) 0 (outlineWords (Stroke edition) grade (now (posts .entry)) (pathOf (now (path .entry)))) (now (s .exit)) r ⌝ }
 {

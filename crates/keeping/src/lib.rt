@@ -6,6 +6,7 @@ use replies::path_rows::PathCheck;
 use replies::path_rows::check_path;
 ghost use Prim.Native.Nat.{_≤_};
 ghost use lib.ListN.{length};
+ghost use Rattle.own_room.specs.OwnRoom.{stepNumbers};
 ghost use Rattle.replies.specs.Checks.{Fits};
 ghost use Rattle.keeping.specs.Keeping.{plainPosts, Keeps};
 
@@ -27,7 +28,7 @@ pub fn keep_path(
     own: &mut [i32],
     out: &mut [u8],
 ) -> Kept
-    requires { ⌜ Fits (now path) grade n × (36908 ≤ length (now own)) ⌝ }
+    requires { ⌜ Fits (now path) grade n × (stepNumbers grade ≤ length (now own)) ⌝ }
     ensures { λ r. ⌜ Keeps (now (path .entry)) (now (posts .entry)) grade (now (out .entry)) r (now (out .exit)) ⌝ }
 {
     rewrite(path, posts, n, Edition::Second, grade, 0, own, out)
@@ -35,7 +36,7 @@ pub fn keep_path(
 
 // A path and its posts, with numbers of the caller's for a step's edges.
 pub fn keep_posts(path: &[i32], posts: &[u32], grade: u32, own: &mut [i32], out: &mut [u8]) -> Kept
-    requires { ⌜ 36908 ≤ length (now own) ⌝ }
+    requires { ⌜ stepNumbers grade ≤ length (now own) ⌝ }
     ensures { λ r. ⌜ Keeps (now (path .entry)) (now (posts .entry)) grade (now (out .entry)) r (now (out .exit)) ⌝ }
 {
     let checked = check_path(path, grade);
@@ -47,7 +48,7 @@ pub fn keep_posts(path: &[i32], posts: &[u32], grade: u32, own: &mut [i32], out:
 
 // keep with numbers of the caller's for a step's edges: every post is 0.
 pub fn keep_with(path: &[i32], grade: u32, own: &mut [i32], out: &mut [u8]) -> Kept
-    requires { ⌜ 36908 ≤ length (now own) ⌝ }
+    requires { ⌜ stepNumbers grade ≤ length (now own) ⌝ }
     ensures { λ r. ⌜ Keeps (now (path .entry)) (plainPosts (now (path .entry))) grade (now (out .entry)) r (now (out .exit)) ⌝ }
 {
     let none = [0u32; 1];

@@ -14,6 +14,7 @@ ghost use Prim.Native.Nat.{_-_, _≤_};
 ghost use lib.ListN.{length, replicate};
 ghost use Rattle.runs.specs.Runs.{over, put};
 ghost use Rattle.paths.specs.Paths.{pathOf, edgesOf, Within};
+ghost use Rattle.own_room.specs.OwnRoom.{stepNumbers};
 ghost use Rattle.outline.specs.Outlines.{outlineBytes};
 ghost use Rattle.outline.specs.declared.Form.the-variants.{Stroke};
 ghost use Rattle.replies.specs.Checks.{Fits};
@@ -51,7 +52,7 @@ pub fn write(
     own: &mut [i32],
     s: &mut [u8],
 ) -> usize
-    requires { ⌜ (n ≡ length (pathOf (now path))) × Within grade (pathOf (now path)) × (36908 ≤ length (now own)) ⌝ }
+    requires { ⌜ (n ≡ length (pathOf (now path))) × Within grade (pathOf (now path)) × (stepNumbers grade ≤ length (now own)) ⌝ }
     requires { ⌜ (m ≡ length (edgesOf grade (pathOf (now path)))) × (length (outlineBytes (Stroke edition) grade (now posts) (pathOf (now path))) ≤ length (now s)) × (old ≤ length (now s)) ⌝ }
     ensures { λ r. ⌜ Writes (now (s .entry)) (outlineBytes (Stroke edition) grade (now (posts .entry)) (pathOf (now (path .entry)))) old r (now (s .exit)) ⌝ }
 {
@@ -72,7 +73,7 @@ pub fn rewrite(
     own: &mut [i32],
     s: &mut [u8],
 ) -> Kept
-    requires { ⌜ Fits (now path) grade n × (old ≤ length (now s)) × (36908 ≤ length (now own)) ⌝ }
+    requires { ⌜ Fits (now path) grade n × (old ≤ length (now s)) × (stepNumbers grade ≤ length (now own)) ⌝ }
     ensures { λ r. ⌜ Rewrites (now (s .entry)) (Stroke edition) grade (now (posts .entry)) (pathOf (now (path .entry))) old r (now (s .exit)) ⌝ }
 {
     let m = count(path, n, grade);

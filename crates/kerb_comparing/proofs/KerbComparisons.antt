@@ -29,9 +29,9 @@ use Rattle.outline.proofs.Parts.{bodies-bytes}
 use Rattle.outline.proofs.ReadBack.{few-edges}
 use Rattle.comparing.specs.Compares.{Agrees}
 use Rattle.comparing.specs.declared.Compared.{Compared}
-use Rattle.kerb_outline.specs.Remaining.{countDue, countLeft, countsAhead, wordsAhead, pieceEnds, TourRoom}
+use Rattle.kerb_outline.specs.Remaining.{pieceNumbers, countDue, countLeft, countsAhead, wordsAhead, pieceEnds, TourRoom}
 use Rattle.kerb_outline.proofs.CountsAhead.{counts-step, words-step, room-after, counts-done, words-done, counts-start, words-start, edges-start}
-use Rattle.kerb_outline.proofs.PieceRoom.{counts-three, piece-few, count-told}
+use Rattle.kerb_outline.proofs.PieceRoom.{counts-three, piece-few, piece-own, count-told}
 use Rattle.kerb_comparing.specs.KerbCompares.{CountAgrees, PieceAgrees, TourAgrees, NoBodies}
 use Rattle.kerb_comparing.specs.declared.KerbComparing.{KerbComparing}
 use Rattle.kerb_comparing.specs.declared.Counted.{Counted}
@@ -49,7 +49,7 @@ count-on s e = rw e (record { table = runs-none; count = refl })
 -- ---- a piece that stands in own numbers
 
 module _ (t : Vector) (y : Style) (vs : List Vertex) (c : KerbComparing) (on : doneOf (c .tour .phase) ≡ false) where
-  pub piece-agrees : (s : List ℕ) {o₀ o₁ : List ℤ} {r : Pieced} {b : ℕ} {q : Counted} → 36908 ≤ length o₀ → Pieces (record { step = t; folds = false }) y vs (c .tour) o₀ 0 o₁ r
+  pub piece-agrees : (s : List ℕ) {o₀ o₁ : List ℤ} {r : Pieced} {b : ℕ} {q : Counted} → pieceNumbers ≤ length o₀ → Pieces (record { step = t; folds = false }) y vs (c .tour) o₀ 0 o₁ r
       → Runs (agree s) fourBytes (c .bodies) (c .at) (wordsOf (take (r .at) o₁)) b (c .at + 4 * r .at) → CountAgrees s (c .table) (c .entry) (r .ends) (c .count + r .at / 4) q
       → PieceAgrees t y vs s c (record { tour = r .tour; count = q .count; table = q .table; entry = q .entry; bodies = b; at = c .at + 4 * r .at })
   unfolding pieceEnds
@@ -64,7 +64,7 @@ module _ (t : Vector) (y : Style) (vs : List Vertex) (c : KerbComparing) (on : d
         fewer = p .fewer on;
         table = runs-as (λ i. countDue (sym g i) (sym f i)) (e .table);
         count = e .count ∙ (λ i. countLeft (g i) (f i));
-        bodies = runs-as (own-words m made h) d;
+        bodies = runs-as (own-words m made (piece-own t y (wayOf y vs) (c .tour) h)) d;
       }
 
 -- ---- piece by piece

@@ -30,7 +30,7 @@ ghost use Rattle.words.specs.Words.{fourBytes};
 ghost use Rattle.outline.specs.Outlines.{pointWords};
 ghost use Rattle.outline.specs.declared.Form.the-variants.{Kerb};
 ghost use Rattle.comparing.specs.Compares.{Agrees};
-ghost use Rattle.kerb_outline.specs.Remaining.{TourRoom};
+ghost use Rattle.kerb_outline.specs.Remaining.{pieceNumbers, TourRoom};
 ghost use Rattle.kerb_comparing.specs.KerbCompares.{CountAgrees, PieceAgrees, TourAgrees, NoBodies};
 
 // Where a comparison stands: the tour and the edges counted of its body, how far the table agrees and where its next count lies, how far the bodies
@@ -114,7 +114,7 @@ fn compare_piece(
     own: &mut [i32],
     s: &[u8],
 ) -> KerbComparing
-    requires { ⌜ Lent y (now points) n × UnitLong t × (36908 ≤ length (now own)) × Touring y (firstOf (kerbPath (y .radius) (now points))) (wayOf y (kerbPath (y .radius) (now points))) (c .tour) ⌝ }
+    requires { ⌜ Lent y (now points) n × UnitLong t × (pieceNumbers ≤ length (now own)) × Touring y (firstOf (kerbPath (y .radius) (now points))) (wayOf y (kerbPath (y .radius) (now points))) (c .tour) ⌝ }
     requires { ⌜ (doneOf (c .tour .phase) ≡ false) × TourRoom t y (kerbPath (y .radius) (now points)) (c .tour) (c .count) (c .entry) (c .at) ⌝ }
     ensures { λ r. ⌜ PieceAgrees t y (kerbPath (y .radius) (now (points .entry))) (now (s .entry)) c r ⌝ }
 {
@@ -157,7 +157,7 @@ fn compare_tour(
     own: &mut [i32],
     s: &[u8],
 ) -> Compared
-    requires { ⌜ Lent y (now points) n × UnitLong t × (36908 ≤ length (now own)) × Touring y (firstOf (kerbPath (y .radius) (now points))) (wayOf y (kerbPath (y .radius) (now points))) (start .tour) ⌝ }
+    requires { ⌜ Lent y (now points) n × UnitLong t × (pieceNumbers ≤ length (now own)) × Touring y (firstOf (kerbPath (y .radius) (now points))) (wayOf y (kerbPath (y .radius) (now points))) (start .tour) ⌝ }
     requires { ⌜ TourRoom t y (kerbPath (y .radius) (now points)) (start .tour) (start .count) (start .entry) (start .at) ⌝ }
     ensures { λ r. ⌜ TourAgrees t y (kerbPath (y .radius) (now (points .entry))) (now (s .entry)) start r ⌝ }
 {
@@ -181,7 +181,7 @@ pub fn compare_kerb(
     own: &mut [i32],
     s: &[u8],
 ) -> Compared
-    requires { ⌜ (n ≡ length (kerbPath (y .radius) (now points))) × Within grade (kerbPath (y .radius) (now points)) × Radius (y .radius) × (36908 ≤ length (now own)) ⌝ }
+    requires { ⌜ (n ≡ length (kerbPath (y .radius) (now points))) × Within grade (kerbPath (y .radius) (now points)) × Radius (y .radius) × (pieceNumbers ≤ length (now own)) ⌝ }
     ensures { λ r. ⌜ Agrees (now (s .entry)) (Kerb y) grade [] (kerbPath (y .radius) (now (points .entry))) r ⌝ }
 {
     let base = KERB_LEAST + KERB_ENTRY * n;

@@ -97,4 +97,4 @@ module _ (l : List ℤ) (g r j c : ℕ) where
         kerb-done {y = styleOf r j c} refl (runs-as (kerb-empty g (styleOf r j c) _ (sym (count-told l r j c {y = styleOf r j c} refl (h .count)) ∙ e)) runs-none) (λ i. absurd (omega (arith, i, e))) (omega arith)
 
 pub kerb-is-drawn : KerbIsDrawn
-kerb-is-drawn l g r j c room h s w some k = due l g r j c (within-passes l h s w) room some k
+kerb-is-drawn l g r j c room h low s w some k = due l g r j c (within-passes l h low s w) room some k

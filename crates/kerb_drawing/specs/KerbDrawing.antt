@@ -1,4 +1,4 @@
--- Document 02, request 3: drawing a kerb, the replies tested in this order, and its promise.
+-- Document 02, request 3: drawing a kerb, the replies tested in this order, and its promise. Grade 1 is retired by request 13.
 use mathlib.Core.Path.{_≡_}
 use mathlib.Core.List.{List, [], _∷_, _++_}
 use Prim.Native.Nat.{ℕ, _*_, _%_, _≤_, _<_}
@@ -30,9 +30,9 @@ pub record DrawsKerb (l : List ℤ) (g r j c : ℕ) (out₀ : List ℤ) (answer 
   pub reply : replyOfDrawn answer ≡ drawKerbReply l g r j c (length out₀)
   pub out : out₁ ≡ drawKerbOut l g r j c out₀
 
--- Numbers lent as pairs, a grade, a style, points within the limits that have edges, or none, and room enough are drawn.
+-- Numbers lent as pairs, a grade from 2 on, a style, points within the limits that have edges, or none, and room enough are drawn.
 abbrev pub KerbIsDrawn : Type 0
-KerbIsDrawn = (l : List ℤ) (g r j c room : ℕ) → length l % 2 ≡ 0 → styleFault r j c ≡ 0 → Within g (kerbPath (pos r) l)
+KerbIsDrawn = (l : List ℤ) (g r j c room : ℕ) → length l % 2 ≡ 0 → 2 ≤ g → styleFault r j c ≡ 0 → Within g (kerbPath (pos r) l)
     → (0 < length (kerbPath (pos r) l) → 0 < length (kerbDue l g r j c)) → 4 * length (kerbDue l g r j c) ≤ room → drawKerbReply l g r j c room ≡ (0, length (kerbDue l g r j c))
 
 -- The call has one outcome: two that its promise allows coincide.

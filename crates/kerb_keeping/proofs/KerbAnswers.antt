@@ -53,9 +53,9 @@ kerb-keeps-refused l {g} {r} {j} {c} out {x} s e =
 
 pub kerb-is-kept : KerbIsKept
 unfolding keepKerbReply writeRows kerbBytes
-kerb-is-kept l g r j c room h s w some k =
+kerb-is-kept l g r j c room h low s w some k =
     let m = length (outlineBytes (kerbForm r j c) g [] (kerbPath (pos r) l)) in
-    rows-append (kerbRows l g r j c) _ _ ∙ within-passes l h s w .passed _ ∙ empty-passes _ _ _ (0, m) some ∙ room-enough m room m (0, m) k
+    rows-append (kerbRows l g r j c) _ _ ∙ within-passes l h low s w .passed _ ∙ empty-passes _ _ _ (0, m) some ∙ room-enough m room m (0, m) k
 
 pub one-kerb-keeping : OneKerbKeeping
 one-kerb-keeping l g r j c out a b o p h k =

@@ -31,9 +31,9 @@ use Rattle.outline.proofs.Parts.{header-bytes, bodies-bytes}
 use Rattle.outline.proofs.ReadBack.{few-edges}
 use Rattle.keeping.specs.Fills.{Apart, Both}
 use Rattle.keeping.proofs.TwoRuns.{both-as, both-of, both-one, Filled, filled-start, filled-as, filled-step, filled-done}
-use Rattle.kerb_outline.specs.Remaining.{countDue, countLeft, countsAhead, wordsAhead, pieceEnds, TourRoom}
+use Rattle.kerb_outline.specs.Remaining.{pieceNumbers, countDue, countLeft, countsAhead, wordsAhead, pieceEnds, TourRoom}
 use Rattle.kerb_outline.proofs.CountsAhead.{counts-step, words-step, piece-at, room-after, counts-done, words-done, counts-start, words-start, edges-start}
-use Rattle.kerb_outline.proofs.PieceRoom.{points-bytes, counts-three, piece-few, count-told}
+use Rattle.kerb_outline.proofs.PieceRoom.{points-bytes, counts-three, piece-few, piece-own, count-told}
 use Rattle.kerb_keeping.specs.KerbFills.{CountFills, PieceFills}
 use Rattle.kerb_keeping.specs.declared.filling.KerbFilling.{KerbFilling}
 use Rattle.kerb_keeping.specs.declared.filling.PutCount.{PutCount}
@@ -45,10 +45,10 @@ edges-counted {es = es} p = omega (arith, p .pos, edges-four es)
 
 -- ---- room for a piece that stands in own numbers
 
-pub numbers-room : (t : Vector) (y : Style) (vs : List Vertex) (w : Tour) {k i j : ℕ} {o₀ o₁ : List ℤ} {a : ℕ} → doneOf (w .phase) ≡ false → TourRoom t y vs w k i j → 36908 ≤ length o₀
+pub numbers-room : (t : Vector) (y : Style) (vs : List Vertex) (w : Tour) {k i j : ℕ} {o₀ o₁ : List ℤ} {a : ℕ} → doneOf (w .phase) ≡ false → TourRoom t y vs w k i j → pieceNumbers ≤ length o₀
     → Runs put edgeNumbers o₀ 0 (pieceOf t y (wayOf y vs) w) o₁ a → Room fourBytes j (wordsOf (take a o₁))
 numbers-room t y vs w on r h p =
-    room-as (own-words (piece-few t y (wayOf y vs) w) p h) (record { fits = omega (arith, bodies-bytes (pieceOf t y (wayOf y vs) w), piece-at t y vs w on refl r) })
+    room-as (own-words (piece-few t y (wayOf y vs) w) p (piece-own t y (wayOf y vs) w h)) (record { fits = omega (arith, bodies-bytes (pieceOf t y (wayOf y vs) w), piece-at t y vs w on refl r) })
 
 -- ---- a count
 
@@ -63,7 +63,7 @@ count-kept e = rw e (record { table = runs-none; count = refl })
 -- ---- piece by piece
 
 module _ (t : Vector) (y : Style) (vs : List Vertex) (f : KerbFilling) (on : doneOf (f .tour .phase) ≡ false) where
-  pub piece-filled : {l₀ l₁ l₂ : List ℕ} {o₀ o₁ : List ℤ} {r : Pieced} {b : ℕ} {q : PutCount} → 36908 ≤ length o₀ → Pieces (record { step = t; folds = false }) y vs (f .tour) o₀ 0 o₁ r
+  pub piece-filled : {l₀ l₁ l₂ : List ℕ} {o₀ o₁ : List ℤ} {r : Pieced} {b : ℕ} {q : PutCount} → pieceNumbers ≤ length o₀ → Pieces (record { step = t; folds = false }) y vs (f .tour) o₀ 0 o₁ r
       → CountFills l₀ (f .table) (r .ends) (f .count + r .at / 4) l₁ q → Runs put fourBytes l₁ (f .bodies) (wordsOf (take (r .at) o₁)) l₂ b
       → PieceFills t y vs l₀ f l₂ (record { tour = r .tour; count = q .count; table = q .table; bodies = b })
   unfolding pieceEnds
@@ -78,7 +78,7 @@ module _ (t : Vector) (y : Style) (vs : List Vertex) (f : KerbFilling) (on : don
         fewer = p .fewer on;
         table = u .pos;
         count = c .count ∙ (λ i. countLeft (g i) (e i));
-        both = both-of u (runs-as (own-words (piece-few t y (wayOf y vs) (f .tour)) made h) d);
+        both = both-of u (runs-as (own-words (piece-few t y (wayOf y vs) (f .tour)) made (piece-own t y (wayOf y vs) (f .tour) h)) d);
       }
 
 pub record KerbFilledTo (t : Vector) (y : Style) (vs : List Vertex) (l₀ : List ℕ) (f₀ : KerbFilling) (l : List ℕ) (f : KerbFilling) : Type 0 where

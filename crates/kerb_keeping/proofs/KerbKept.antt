@@ -12,9 +12,9 @@ use Rattle.kerb.specs.Styles.{styleOf}
 use Rattle.kerb.proofs.StyleNumbers.{style-radius}
 use Rattle.kerb_paths.specs.Points.{kerbPath}
 use Rattle.outline.specs.Theorems.{AllRadius, Formed}
-use Rattle.replies.specs.Replies.{gradeRow, countRow, outsideRow, emptyRow, roomRow, written}
+use Rattle.replies.specs.Replies.{drawGradeRow, countRow, outsideRow, emptyRow, roomRow, written}
 use Rattle.replies.specs.StyleRows.{styleFault, styleRow}
-use Rattle.replies.proofs.Rows.{NoneHold, first-none, either}
+use Rattle.replies.proofs.Rows.{NoneHold, first-none, grade-from}
 use Rattle.replies.proofs.StyleFaults.{faultless}
 use Rattle.kerb_rows.specs.KerbRows.{pairsRow, kerbRows}
 use Rattle.keeping.specs.Keeping.{writeRows}
@@ -28,7 +28,7 @@ all-radius r (x ∷ y ∷ l) = (refl, all-radius r l)
 
 module _ (l : List ℤ) (g r j c room : ℕ) (h : keepKerbReply l g r j c room .0 ≡ 0) where
   pub kerb-none : NoneHold (kerbRows l g r j c ++ writeRows (kerbForm r j c) g [] (kerbPath (pos r) l) room)
-  unfolding keepKerbReply writeRows kerbRows pairsRow gradeRow styleRow countRow outsideRow emptyRow roomRow
+  unfolding keepKerbReply writeRows kerbRows pairsRow drawGradeRow styleRow countRow outsideRow emptyRow roomRow
   kerb-none = first-none _ _ (refl, (refl, (refl, (refl, (refl, (refl, (refl, tt))))))) h
 
   pub kerb-pairs : length l % 2 ≡ 0
@@ -36,14 +36,14 @@ module _ (l : List ℤ) (g r j c room : ℕ) (h : keepKerbReply l g r j c room .
   kerb-pairs = eqb-true _ _ (not-false _ (kerb-none .0))
 
   pub kerb-formed : Formed (kerbForm r j c) g [] (kerbPath (pos r) l)
-  unfolding kerbRows gradeRow styleRow countRow outsideRow styleOf
+  unfolding kerbRows styleRow countRow outsideRow styleOf
   kerb-formed =
       let n = kerb-none in
-      let e = either _ _ (n .1 .0) in
+      let e = grade-from g (n .1 .0) in
       let f : styleFault r j c ≤ 0 = ltb-false _ _ (n .1 .1 .0) in
       let z : styleFault r j c ≡ 0 = omega (arith, f) in
       let vs = kerbPath (pos r) l in (
-        record { low = ltb-false _ _ (e .0); high = ltb-false _ _ (e .1); count = ltb-false _ _ (n .1 .1 .1 .0); inside = le-antisymm (outside-most vs) (ltb-false _ _ (n .1 .1 .1 .1 .0)) },
+        record { low = omega (arith, e .0); high = e .1; count = ltb-false _ _ (n .1 .1 .1 .0); inside = le-antisymm (outside-most vs) (ltb-false _ _ (n .1 .1 .1 .1 .0)) },
         (style-radius r j c {y = styleOf r j c} (faultless r j c z .0) refl, all-radius (pos r) l, refl),
       )
 

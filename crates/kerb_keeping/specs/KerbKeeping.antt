@@ -1,4 +1,4 @@
--- Document 02, request 3: keep of a kerb, its rows, its answer's reply and its promise.
+-- Document 02, request 3: keep of a kerb, its rows, its answer's reply and its promise. Grade 1 is retired by request 13.
 use mathlib.Core.Path.{_≡_}
 use mathlib.Core.List.{List, [], _++_}
 use Prim.Native.Nat.{ℕ, _%_, _≤_, _<_}
@@ -35,9 +35,9 @@ pub record KeepsKerb (l : List ℤ) (g r j c : ℕ) (out₀ : List ℕ) (answer 
   pub reply : replyOfKept answer ≡ keepKerbReply l g r j c (length out₀)
   pub out : out₁ ≡ keepKerbOut l g r j c out₀
 
--- Pairs, a grade, a style and points within the limits, an edge where there are points, and room enough are kept.
+-- Pairs, a grade from 2 on, a style and points within the limits, an edge where there are points, and room enough are kept.
 abbrev pub KerbIsKept : Type 0
-KerbIsKept = (l : List ℤ) (g r j c room : ℕ) → length l % 2 ≡ 0 → styleFault r j c ≡ 0 → Within g (kerbPath (pos r) l)
+KerbIsKept = (l : List ℤ) (g r j c room : ℕ) → length l % 2 ≡ 0 → 2 ≤ g → styleFault r j c ≡ 0 → Within g (kerbPath (pos r) l)
     → (0 < length (kerbPath (pos r) l) → 0 < length (edgesFor (kerbForm r j c) g (kerbPath (pos r) l))) → length (kerbBytes l g r j c) ≤ room
     → keepKerbReply l g r j c room ≡ (0, length (kerbBytes l g r j c))
 

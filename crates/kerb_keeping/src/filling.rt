@@ -34,7 +34,7 @@ ghost use Rattle.words.specs.Words.{fourBytes};
 ghost use Rattle.outline.specs.Outlines.{headerOf, pointWords, outlineWords};
 ghost use Rattle.outline.specs.declared.Form.the-variants.{Kerb};
 ghost use Rattle.keeping.specs.Fills.{Apart, Both};
-ghost use Rattle.kerb_outline.specs.Remaining.{countsAhead, wordsAhead, TourRoom};
+ghost use Rattle.kerb_outline.specs.Remaining.{pieceNumbers, countsAhead, wordsAhead, TourRoom};
 ghost use Rattle.kerb_keeping.specs.KerbFills.{CountFills, PieceFills};
 
 // Where filling stands: the tour and the edges counted of its body, and where the counts and the bodies go on.
@@ -108,7 +108,7 @@ fn fill_piece(
     own: &mut [i32],
     s: &mut [u8],
 ) -> KerbFilling
-    requires { ⌜ Lent y (now points) n × UnitLong t × (36908 ≤ length (now own)) × Touring y (firstOf (kerbPath (y .radius) (now points))) (wayOf y (kerbPath (y .radius) (now points))) (f .tour) ⌝ }
+    requires { ⌜ Lent y (now points) n × UnitLong t × (pieceNumbers ≤ length (now own)) × Touring y (firstOf (kerbPath (y .radius) (now points))) (wayOf y (kerbPath (y .radius) (now points))) (f .tour) ⌝ }
     requires { ⌜ (doneOf (f .tour .phase) ≡ false) × TourRoom t y (kerbPath (y .radius) (now points)) (f .tour) (f .count) (f .table) (f .bodies) ⌝ }
     ensures { λ r. ⌜ PieceFills t y (kerbPath (y .radius) (now (points .entry))) (now (s .entry)) f (now (s .exit)) r ⌝ }
 {
@@ -148,7 +148,7 @@ fn fill_tour(
     own: &mut [i32],
     s: &mut [u8],
 ) -> usize
-    requires { ⌜ Lent y (now points) n × UnitLong t × (36908 ≤ length (now own)) × Touring y (firstOf (kerbPath (y .radius) (now points))) (wayOf y (kerbPath (y .radius) (now points))) (start .tour) ⌝ }
+    requires { ⌜ Lent y (now points) n × UnitLong t × (pieceNumbers ≤ length (now own)) × Touring y (firstOf (kerbPath (y .radius) (now points))) (wayOf y (kerbPath (y .radius) (now points))) (start .tour) ⌝ }
     requires { ⌜ TourRoom t y (kerbPath (y .radius) (now points)) (start .tour) (start .count) (start .table) (start .bodies) × Apart (start .table) (countsAhead t y (kerbPath (y .radius) (now points)) (start .count) (start .tour)) (start .bodies) (wordsAhead t y (kerbPath (y .radius) (now points)) (start .tour)) ⌝ }
     ensures { λ r. ⌜ Both (now (s .entry)) (start .table) (countsAhead t y (kerbPath (y .radius) (now (points .entry))) (start .count) (start .tour)) (start .bodies) (wordsAhead t y (kerbPath (y .radius) (now (points .entry))) (start .tour)) (now (s .exit)) r ⌝ }
 {
@@ -179,7 +179,7 @@ pub fn kerb_outline(
     own: &mut [i32],
     s: &mut [u8],
 ) -> usize
-    requires { ⌜ (n ≡ length (kerbPath (y .radius) (now points))) × Within grade (kerbPath (y .radius) (now points)) × Radius (y .radius) × (36908 ≤ length (now own)) ⌝ }
+    requires { ⌜ (n ≡ length (kerbPath (y .radius) (now points))) × Within grade (kerbPath (y .radius) (now points)) × Radius (y .radius) × (pieceNumbers ≤ length (now own)) ⌝ }
     requires { ⌜ m ≡ length (kerbEdges grade y (kerbPath (y .radius) (now points))) ⌝ }
     ensures { λ r. ⌜ Runs put fourBytes (now (s .entry)) 0 (outlineWords (Kerb y) grade [] (kerbPath (y .radius) (now (points .entry)))) (now (s .exit)) r ⌝ }
 {

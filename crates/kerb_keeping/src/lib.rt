@@ -6,6 +6,7 @@ use kerb_rows::KerbCheck;
 use kerb_rows::check_kerb;
 ghost use Prim.Native.Nat.{_≤_};
 ghost use lib.ListN.{length};
+ghost use Rattle.kerb_outline.specs.Remaining.{pieceNumbers};
 ghost use Rattle.kerb_rows.specs.KerbRows.{KerbFits};
 ghost use Rattle.kerb_keeping.specs.KerbKeeping.{KeepsKerb};
 
@@ -23,7 +24,7 @@ fn keep_points(
     own: &mut [i32],
     out: &mut [u8],
 ) -> Kept
-    requires { ⌜ KerbFits (now points) grade radius join closed n × (36908 ≤ length (now own)) ⌝ }
+    requires { ⌜ KerbFits (now points) grade radius join closed n × (pieceNumbers ≤ length (now own)) ⌝ }
     ensures { λ r. ⌜ KeepsKerb (now (points .entry)) grade radius join closed (now (out .entry)) r (now (out .exit)) ⌝ }
 {
     let y = style_of(radius, join, closed);
@@ -40,7 +41,7 @@ pub fn keep_kerb_with(
     own: &mut [i32],
     out: &mut [u8],
 ) -> Kept
-    requires { ⌜ 36908 ≤ length (now own) ⌝ }
+    requires { ⌜ pieceNumbers ≤ length (now own) ⌝ }
     ensures { λ r. ⌜ KeepsKerb (now (points .entry)) grade radius join closed (now (out .entry)) r (now (out .exit)) ⌝ }
 {
     let checked = check_kerb(points, grade, radius, join, closed);

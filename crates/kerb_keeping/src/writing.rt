@@ -18,6 +18,7 @@ ghost use Rattle.kerb.specs.Kerbs.{kerbEdges};
 ghost use Rattle.kerb_paths.specs.Points.{kerbPath};
 ghost use Rattle.outline.specs.Outlines.{outlineBytes};
 ghost use Rattle.outline.specs.declared.Form.the-variants.{Kerb};
+ghost use Rattle.kerb_outline.specs.Remaining.{pieceNumbers};
 ghost use Rattle.keeping.specs.Rewriting.{Writes, Rewrites};
 
 // How many edges a kerb has: the tour over a few numbers of scratch counts.
@@ -40,7 +41,7 @@ pub fn write_kerb(
     own: &mut [i32],
     s: &mut [u8],
 ) -> usize
-    requires { ⌜ (n ≡ length (kerbPath (y .radius) (now points))) × Within grade (kerbPath (y .radius) (now points)) × Radius (y .radius) × (36908 ≤ length (now own)) ⌝ }
+    requires { ⌜ (n ≡ length (kerbPath (y .radius) (now points))) × Within grade (kerbPath (y .radius) (now points)) × Radius (y .radius) × (pieceNumbers ≤ length (now own)) ⌝ }
     requires { ⌜ (m ≡ length (kerbEdges grade y (kerbPath (y .radius) (now points)))) × (length (outlineBytes (Kerb y) grade [] (kerbPath (y .radius) (now points))) ≤ length (now s)) × (old ≤ length (now s)) ⌝ }
     ensures { λ r. ⌜ Writes (now (s .entry)) (outlineBytes (Kerb y) grade [] (kerbPath (y .radius) (now (points .entry)))) old r (now (s .exit)) ⌝ }
 {
@@ -59,7 +60,7 @@ pub fn rewrite_kerb(
     own: &mut [i32],
     s: &mut [u8],
 ) -> Kept
-    requires { ⌜ (n ≡ length (kerbPath (y .radius) (now points))) × Within grade (kerbPath (y .radius) (now points)) × Radius (y .radius) × (36908 ≤ length (now own)) × (old ≤ length (now s)) ⌝ }
+    requires { ⌜ (n ≡ length (kerbPath (y .radius) (now points))) × Within grade (kerbPath (y .radius) (now points)) × Radius (y .radius) × (pieceNumbers ≤ length (now own)) × (old ≤ length (now s)) ⌝ }
     ensures { λ r. ⌜ Rewrites (now (s .entry)) (Kerb y) grade [] (kerbPath (y .radius) (now (points .entry))) old r (now (s .exit)) ⌝ }
 {
     let m = count_kerb(points, n, grade, y);

@@ -25,7 +25,7 @@ use Rattle.words.specs.Words.{fourBytes}
 use Rattle.words.proofs.NumberRuns.{four-each}
 use Rattle.outline.specs.Outlines.{pointWords, countsOf}
 use Rattle.outline.proofs.OwnNumbers.{own-count}
-use Rattle.kerb_outline.specs.Remaining.{pieceCount, TourRoom}
+use Rattle.kerb_outline.specs.Remaining.{pieceNumbers, pieceCount, TourRoom}
 use Rattle.kerb_outline.proofs.CountsAhead.{piece-at, piece-small}
 
 -- ---- the points
@@ -54,6 +54,9 @@ counts-three g y vs = four-each (countsOf (kerbBodies g y vs))
 
 pub piece-few : (t : Vector) (y : Style) (qs : List Vertex) (w : Tour) → Most 9227 (pieceOf t y qs w)
 piece-few t y qs w = record { most = omega (arith, piece-most t y qs w) }
+
+pub piece-own : (t : Vector) (y : Style) (qs : List Vertex) (w : Tour) {k : ℕ} → pieceNumbers ≤ k → 4 * length (pieceOf t y qs w) ≤ k
+piece-own t y qs w h = omega (arith, piece-most t y qs w, h)
 
 module _ (t : Vector) (y : Style) (vs : List Vertex) (w : Tour) (on : doneOf (w .phase) ≡ false) {k i j : ℕ} (room : TourRoom t y vs w k i j) where
   pub entry-fits : i + 4 < 2 ^ 64

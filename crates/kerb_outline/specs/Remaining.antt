@@ -14,6 +14,10 @@ use Rattle.kerb_paths.specs.Points.{firstOf, wayOf}
 use Rattle.words.specs.Words.{fourBytes}
 use Rattle.outline.specs.Outlines.{countsOf, bodyWords}
 
+-- Own numbers that hold a piece's edges on their way: a piece has 1,539 at most, of four numbers each.
+abbrev pub pieceNumbers : ℕ
+pieceNumbers = 6156
+
 -- the counts of bodies, of the first of which so many edges are counted already
 unfoldable pub countsFrom : ℕ → List (List Edge) → List ℕ
 countsFrom k [] = []

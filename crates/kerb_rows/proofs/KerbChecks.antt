@@ -16,12 +16,12 @@ use Rattle.kerb.specs.declared.Style.{Style}
 use Rattle.kerb_paths.specs.Points.{kerbPath}
 use Rattle.kerb_paths.proofs.PointsAhead.{point-count}
 use Rattle.paths.specs.Paths.{Within}
-use Rattle.replies.specs.Replies.{Reply, Row, firstRow, gradeRow, countRow, outsideRow}
+use Rattle.replies.specs.Replies.{Reply, Row, firstRow, drawGradeRow, countRow, outsideRow}
 use Rattle.replies.specs.StyleRows.{styleFault, styleRow}
 use Rattle.replies.specs.Refusals.{refusalOf}
 use Rattle.replies.specs.declared.Refusal.{Refusal}
 use Rattle.replies.specs.declared.Refusal.the-variants.{Uneven, TooMany, Grade, Outside, StyleWord}
-use Rattle.replies.proofs.Rows.{NoneHold, first-skip, none-last, rows-append}
+use Rattle.replies.proofs.Rows.{NoneHold, first-skip, none-last, rows-append, grade-drawn, grade-retired, grade-above}
 use Rattle.replies.proofs.StyleFaults.{faultless}
 use Rattle.kerb_rows.specs.KerbRows.{pairsRow, kerbRows, kerbDue, KerbFits, orKerb, KerbSays}
 use Rattle.kerb_rows.specs.declared.KerbCheck.{KerbCheck}
@@ -43,10 +43,6 @@ module _ (l : List ℤ) (g r j c : ℕ) where
   unfolding pairsRow
   even h = ap not (eq-eqb (length l % 2) 0 h)
 
-  graded : 1 ≤ g → g ≤ 8 → gradeRow g .0 ≡ false
-  unfolding gradeRow
-  graded h k = rw (le-ltb g 1 h, le-ltb 8 g k)
-
   styled : styleFault r j c ≤ 0 → styleRow r j c .0 ≡ false
   unfolding styleRow
   styled h = le-ltb 0 (styleFault r j c) h
@@ -66,26 +62,26 @@ module _ (l : List ℤ) (g r j c : ℕ) where
   odd-count h = refused (Uneven (length l)) (λ more. first-holds [] _ _ more tt (ap not (ne-eqb (length l % 2) 0 h)))
 
   module _ (h₁ : length l % 2 ≡ 0) where
-    pub grade-under : g < 1 → KerbSays l g r j c (Refused (Grade g))
-    unfolding kerbRows gradeRow refusalOf
-    grade-under h = refused (Grade g) (λ more. first-holds (pairsRow l ∷ []) _ _ more (even h₁, tt) (rw (lt-ltb g 1 h)))
+    pub grade-under : g < 2 → KerbSays l g r j c (Refused (Grade g))
+    unfolding kerbRows drawGradeRow refusalOf
+    grade-under h = refused (Grade g) (λ more. first-holds (pairsRow l ∷ []) (drawGradeRow g) _ more (even h₁, tt) (grade-retired h))
 
-    module _ (low : 1 ≤ g) where
+    module _ (low : 2 ≤ g) where
       pub grade-over : 8 < g → KerbSays l g r j c (Refused (Grade g))
-      unfolding kerbRows gradeRow refusalOf
-      grade-over h = refused (Grade g) (λ more. first-holds (pairsRow l ∷ []) _ _ more (even h₁, tt) (rw (le-ltb g 1 low, lt-ltb 8 g h)))
+      unfolding kerbRows drawGradeRow refusalOf
+      grade-over h = refused (Grade g) (λ more. first-holds (pairsRow l ∷ []) (drawGradeRow g) _ more (even h₁, tt) (grade-above low h))
 
       module _ (high : g ≤ 8) where
         pub style-out : {i : ℕ} → i ≡ styleFault r j c → 0 < i → KerbSays l g r j c (Refused (StyleWord i))
         unfolding kerbRows styleRow refusalOf
         style-out {i} e h = refused (StyleWord i)
-            (λ more. first-holds (pairsRow l ∷ gradeRow g ∷ []) (styleRow r j c) _ more (even h₁, (graded low high, tt)) (lt-ltb 0 (styleFault r j c) (omega (arith, e, h))) ∙ ap (λ (n : ℕ). (11, n)) (sym e))
+            (λ more. first-holds (pairsRow l ∷ drawGradeRow g ∷ []) (styleRow r j c) _ more (even h₁, (grade-drawn low high, tt)) (lt-ltb 0 (styleFault r j c) (omega (arith, e, h))) ∙ ap (λ (n : ℕ). (11, n)) (sym e))
 
         module _ (hs : styleFault r j c ≤ 0) where
           pub points-over : 4096 < length l / 2 → KerbSays l g r j c (Refused (TooMany (length l / 2)))
           unfolding kerbRows countRow refusalOf
           points-over h = refused (TooMany (length l / 2))
-              (λ more. first-holds (pairsRow l ∷ gradeRow g ∷ styleRow r j c ∷ []) (countRow (length (kerbPath (pos r) l))) _ more (even h₁, (graded low high, (styled hs, tt))) (lt-ltb 4096 (length (kerbPath (pos r) l)) (omega (arith, point-count (pos r) l, h))) ∙ ap (λ (n : ℕ). (2, n)) (point-count (pos r) l))
+              (λ more. first-holds (pairsRow l ∷ drawGradeRow g ∷ styleRow r j c ∷ []) (countRow (length (kerbPath (pos r) l))) _ more (even h₁, (grade-drawn low high, (styled hs, tt))) (lt-ltb 4096 (length (kerbPath (pos r) l)) (omega (arith, point-count (pos r) l, h))) ∙ ap (λ (n : ℕ). (2, n)) (point-count (pos r) l))
 
           module _ (few : length l / 2 ≤ 4096) where
             pub point-outside : {i : ℕ} → i ≡ firstOutside (kerbPath (pos r) l) → i < length l / 2 → KerbSays l g r j c (Refused (Outside i))
@@ -93,7 +89,7 @@ module _ (l : List ℤ) (g r j c : ℕ) where
             point-outside {i} e h =
                 let vs = kerbPath (pos r) l in
                 refused (Outside i)
-                (λ more. first-holds (pairsRow l ∷ gradeRow g ∷ styleRow r j c ∷ countRow (length vs) ∷ []) (outsideRow vs) [] more (even h₁, (graded low high, (styled hs, (counted few, tt)))) (lt-ltb (firstOutside vs) (length vs) (omega (arith, e, point-count (pos r) l, h))) ∙ ap (λ (n : ℕ). (4, n)) (sym e))
+                (λ more. first-holds (pairsRow l ∷ drawGradeRow g ∷ styleRow r j c ∷ countRow (length vs) ∷ []) (outsideRow vs) [] more (even h₁, (grade-drawn low high, (styled hs, (counted few, tt)))) (lt-ltb (firstOutside vs) (length vs) (omega (arith, e, point-count (pos r) l, h))) ∙ ap (λ (n : ℕ). (4, n)) (sym e))
 
             pub kerb-passes : {i : ℕ} → i ≡ firstOutside (kerbPath (pos r) l) → length l / 2 ≤ i → KerbSays l g r j c (Passed (length l / 2))
             unfolding kerbRows outsideRow orKerb
@@ -101,13 +97,13 @@ module _ (l : List ℤ) (g r j c : ℕ) where
                 let vs = kerbPath (pos r) l in
                 let k : length vs ≤ firstOutside vs = omega (arith, e, point-count (pos r) l, h) in
                 let says : (more : Reply) → firstRow (kerbRows l g r j c) more ≡ more =
-                λ more. none-last (kerbRows l g r j c) more (even h₁, (graded low high, (styled hs, (counted few, (le-ltb (firstOutside vs) (length vs) k, tt))))) in
+                λ more. none-last (kerbRows l g r j c) more (even h₁, (grade-drawn low high, (styled hs, (counted few, (le-ltb (firstOutside vs) (length vs) k, tt))))) in
                 let ranges = faultless r j c (let z : styleFault r j c ≡ 0 = omega (arith, hs) in z) in
                 record {
                   says = says;
                   fits = λ n f. let m : length l / 2 ≡ n = cc in record {
                     count = sym m ∙ sym (point-count (pos r) l);
-                    within = record { low = low; high = high; count = omega (arith, point-count (pos r) l, few); inside = le-antisymm (outside-most vs) k };
+                    within = record { low = omega (arith, low); high = high; count = omega (arith, point-count (pos r) l, few); inside = le-antisymm (outside-most vs) k };
                     radius = ranges .0;
                     join = ranges .1;
                     closed = ranges .2;
@@ -115,11 +111,11 @@ module _ (l : List ℤ) (g r j c : ℕ) where
                   };
                 }
 
--- pairs, a grade, a style and points within the limits pass
-pub within-passes : (l : List ℤ) {g r j c : ℕ} → length l % 2 ≡ 0 → styleFault r j c ≡ 0 → Within g (kerbPath (pos r) l) → KerbFits l g r j c (length l / 2)
-within-passes l {g} {r} {j} {c} h s w =
+-- pairs, a grade from 2 on, a style and points within the limits pass
+pub within-passes : (l : List ℤ) {g r j c : ℕ} → length l % 2 ≡ 0 → 2 ≤ g → styleFault r j c ≡ 0 → Within g (kerbPath (pos r) l) → KerbFits l g r j c (length l / 2)
+within-passes l {g} {r} {j} {c} h low s w =
     let e : firstOutside (kerbPath (pos r) l) ≡ length l / 2 = w .inside ∙ point-count (pos r) l in
-    kerb-passes l g r j c h (w .low) (w .high) (omega (arith, s)) (omega (arith, point-count (pos r) l, w .count)) {i = firstOutside (kerbPath (pos r) l)} refl (omega (arith, e)) .fits _ refl
+    kerb-passes l g r j c h low (w .high) (omega (arith, s)) (omega (arith, point-count (pos r) l, w .count)) {i = firstOutside (kerbPath (pos r) l)} refl (omega (arith, e)) .fits _ refl
 
 -- whatever further rows say, a refusal of the kerb's rows is the reply
 pub kerb-refuses : (l : List ℤ) {g r j c : ℕ} {k : KerbCheck} {x : Refusal} (more : List Row) (last : Reply) → KerbSays l g r j c k → k ≡ Refused x → refusalOf x ≡ firstRow (kerbRows l g r j c ++ more) last

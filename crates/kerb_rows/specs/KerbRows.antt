@@ -11,7 +11,7 @@ use Rattle.kerb.specs.Kerbs.{kerbEdges}
 use Rattle.kerb.specs.Styles.{styleOf}
 use Rattle.kerb_paths.specs.Points.{kerbPath}
 use Rattle.paths.specs.Paths.{Within}
-use Rattle.replies.specs.Replies.{Reply, Row, firstRow, gradeRow, countRow, outsideRow}
+use Rattle.replies.specs.Replies.{Reply, Row, firstRow, drawGradeRow, countRow, outsideRow}
 use Rattle.replies.specs.StyleRows.{styleRow}
 use Rattle.replies.specs.Refusals.{refusalOf}
 use Rattle.kerb_rows.specs.declared.KerbCheck.{KerbCheck}
@@ -23,7 +23,7 @@ pairsRow l = (not (eqb (length l % 2) 0), (1, length l))
 
 -- l is the points lent, g the grade; r, j and c are the radius, join and closed beside them
 unfoldable pub kerbRows : List ℤ → ℕ → ℕ → ℕ → ℕ → List Row
-kerbRows l g r j c = pairsRow l ∷ gradeRow g ∷ styleRow r j c ∷ countRow (length (kerbPath (pos r) l)) ∷ outsideRow (kerbPath (pos r) l) ∷ []
+kerbRows l g r j c = pairsRow l ∷ drawGradeRow g ∷ styleRow r j c ∷ countRow (length (kerbPath (pos r) l)) ∷ outsideRow (kerbPath (pos r) l) ∷ []
 
 -- the edges that are due
 unfoldable pub kerbDue : List ℤ → ℕ → ℕ → ℕ → ℕ → List Edge

@@ -19,7 +19,7 @@ pub fn check_kerb(points: &[i32], grade: u32, radius: u32, join: u32, closed: u3
     if m % 2 != 0 {
         return KerbCheck::Refused(Refusal::Uneven(m));
     }
-    if grade < 1 {
+    if grade < 2 {
         return KerbCheck::Refused(Refusal::Grade(grade));
     }
     if 8 < grade {

@@ -17,7 +17,7 @@ fn print_store(
     path: &mut [i32],
     own: &mut [i32],
 ) -> usize
-    requires { ⌜ (12288 ≤ length (now path)) × (36908 ≤ length (now own)) ⌝ }
+    requires { ⌜ (12288 ≤ length (now path)) × (8272 ≤ length (now own)) ⌝ }
 {
     if 61440 < store.len() {
         return page::text(page, 0, b"refused: the input is longer than 60 KiB\n");
@@ -35,7 +35,7 @@ fn main() {
     let mut page = [0u8; 4096];
     let mut list = [0usize; 19200];
     let mut path = [0i32; 12288];
-    let mut own = [0i32; 36908];
+    let mut own = [0i32; 8272];
     let count = io::read_full(STDIN_FILENO, &mut store);
     let fill = print_store(&store[..count], &mut page, &mut list, &mut path, &mut own);
     page::finish(&page, fill);

@@ -1,6 +1,6 @@
 -- The bytes that a store's own counts mark off as a body: the counts are those of the path's bodies, and before a body stand header, table and the
 -- bodies before it. Assumes nothing.
-use mathlib.Core.Path.{_≡_, refl, sym, ap, _∙_}
+use mathlib.Core.Path.{_≡_, refl, sym, ap, subst, _∙_}
 use mathlib.Core.Bool.{Bool, true, false}
 use mathlib.Core.List.{List, [], _∷_, _++_, append-assoc, append-nil}
 use Prim.Native.Nat.{ℕ, zero, suc, _+_, _*_, _≤_, _<_}
@@ -15,16 +15,17 @@ use Rattle.runs.proofs.Laws.{spread-append}
 use Rattle.turning.specs.declared.Edge.{Edge}
 use Rattle.paths.specs.Paths.{bodiesOf, joined, edgesOf, Within}
 use Rattle.contacts.specs.declared.Vertex.{Vertex}
-use Rattle.outline.specs.Layout.{countPlace, strokeWords, headerWords, entryAt, edgeBytes, lengthOf}
+use Rattle.outline.specs.Layout.{countPlace, strokeWords, entryAt, edgeBytes, lengthOf}
 use Rattle.outline.specs.declared.Edition.{Edition}
 use Rattle.outline.specs.declared.Edition.the-variants.{First, Second}
+use Rattle.outline.specs.declared.Form.{Form}
 use Rattle.outline.specs.declared.Form.the-variants.{Stroke}
 use Rattle.words.specs.Words.{fourBytes, bytesOf, wordsIn, wordAt}
 use Rattle.outline.specs.Outlines.{styleWords, headerOf, postWords, entryOf, tableOf, bodyWords, partsWords, outlineWords, outlineBytes}
-use Rattle.outline.specs.Stores.{editionIn, editionOf, countIn, edgesIn, edgesBefore, bodyBytesIn}
-use Rattle.outline.proofs.ReadBack.{bodies-count, stroke-length, numbers-length, header-word, count-back, edition-is}
+use Rattle.outline.specs.Stores.{editionIn, editionOf, formIn, gradeIn, countIn, lengthIn, pathIn, postsIn, dueIn, bodiesIn, soundOf, edgesIn, edgesBefore, bodyBytesIn}
+use Rattle.outline.proofs.ReadBack.{bodies-count, stroke-length, numbers-length, header-word, count-back, edition-is, sound-is, sound-suits}
 use Rattle.outline.proofs.FormLengths.{entries-four}
-use Rattle.outline.specs.Theorems.{Formed}
+use Rattle.outline.specs.Theorems.{Formed, BodyBytes}
 use Rattle.words.proofs.Bytes.{bytes-length}
 use Rattle.outline.proofs.Parts.{body-append}
 
@@ -87,6 +88,10 @@ module _ (e : Edition) where
 
 -- ---- in a store that begins with an outline
 
+-- body i of a store ends inside it
+abbrev pub EndsInside : List ℕ → ℕ → Type 0
+EndsInside s i = lengthOf (Stroke (editionOf (editionIn s))) (countIn s) (edgesBefore s i) + edgeBytes * edgesIn s i ≤ length s
+
 module _ (e : Edition) (g : ℕ) (ps : List ℕ) (vs : List Vertex) (rest : List ℕ) (h : Formed (Stroke e) g ps vs) where
   store : List ℕ
   store = outlineBytes (Stroke e) g ps vs ++ rest
@@ -122,6 +127,10 @@ module _ (e : Edition) (g : ℕ) (ps : List ℕ) (vs : List Vertex) (rest : List
           let k : i ≡ length vs = le-antisymm l (rw count-is at (ltb-false i (countIn store) q)) in
           let f : entryAt (Stroke e) (length vs) ≡ 5 + (0 + strokeWords e * length vs) = omega arith in
           rw (q, edgesIn, edition-here, count-is, k, f) (word-past (0 + strokeWords e * length vs) ∙ closing-count e ps vs bodies _ (bodies-count g vs))
+
+  pub edges-told : (i : ℕ) → i ≤ length vs → edgesIn (outlineBytes (Stroke e) g ps vs ++ rest) i ≡ length (getD (bodiesOf g vs) i [])
+  unfolding store bodies
+  edges-told i l = edges-is i l
 
   before-is : (i : ℕ) → i ≤ length vs → edgesBefore store i ≡ length (joined (take i bodies))
   unfolding edgesBefore bodies joined
@@ -169,3 +178,33 @@ module _ (e : Edition) (g : ℕ) (ps : List ℕ) (vs : List Vertex) (rest : List
         ap (λ (d : Edition). take (edgeBytes * edgesIn store i) (drop (lengthOf (Stroke d) (countIn store) (edgesBefore store i)) store)) edition-here
         ∙ ap (λ (l : List ℕ). take (edgeBytes * edgesIn store i) l) (ap (drop (lengthOf (Stroke e) (countIn store) (edgesBefore store i))) bytes-split ∙ drop-at (bytesOf front) (b ++ back) _ q)
         ∙ take-at b back (edgeBytes * edgesIn store i) body-long
+
+    pub body-inside : EndsInside (outlineBytes (Stroke e) g ps vs ++ rest) i
+    unfolding store
+    body-inside =
+        let b = bytesOf (bodyWords (getD bodies i [])) in
+        let q : lengthOf (Stroke (editionOf (editionIn store))) (countIn store) (edgesBefore store i) ≡ lengthOf (Stroke e) (length vs) (edgesBefore store i) =
+        λ j. lengthOf (Stroke (edition-here j)) (count-is j) (edgesBefore store i) in
+        let l : length store ≡ length (bytesOf front) + (length b + length back) =
+        ap length bytes-split ∙ length-append (bytesOf front) (b ++ back) ∙ ap (λ (n : ℕ). length (bytesOf front) + n) (length-append b back) in
+        omega (arith, q, l, front-long, body-long)
+
+-- ---- in a sound store
+
+-- it begins with what is due
+pub sound-begins : (s : List ℕ) → soundOf s ≡ true → s ≡ outlineBytes (formIn s) (gradeIn s) (postsIn s) (pathIn s) ++ drop (lengthIn s) s
+unfolding dueIn
+sound-begins s h = sound-is s h
+
+stroke-begins : (s : List ℕ) (e : Edition) → formIn s ≡ Stroke e → soundOf s ≡ true → s ≡ outlineBytes (Stroke e) (gradeIn s) (postsIn s) (pathIn s) ++ drop (lengthIn s) s
+stroke-begins s e o h = sound-begins s h ∙ ap (λ (f : Form). outlineBytes f (gradeIn s) (postsIn s) (pathIn s) ++ drop (lengthIn s) s) o
+
+pub body-bytes-in : BodyBytes
+unfolding bodiesIn
+body-bytes-in s i e o w h l =
+    ap (λ (x : List ℕ). bodyBytesIn x i) (stroke-begins s e o h) ∙ body-bytes e (gradeIn s) (postsIn s) (pathIn s) (drop (lengthIn s) s) (w, sound-suits s e o h) i l
+
+pub body-inside-in : (s : List ℕ) (i : ℕ) (e : Edition) → formIn s ≡ Stroke e → Within (gradeIn s) (pathIn s) → soundOf s ≡ true → i ≤ length (pathIn s) → EndsInside s i
+body-inside-in s i e o w h l =
+    subst (λ (x : List ℕ). EndsInside x i) (sym (stroke-begins s e o h))
+    (body-inside e (gradeIn s) (postsIn s) (pathIn s) (drop (lengthIn s) s) (w, sound-suits s e o h) i l)

@@ -74,7 +74,7 @@ four-again a b c d ha hb hc hd =
     let e₃ : w / 16777216 % 256 ≡ d = rw f₃ (omega arith) in
     λ i. p .0 i ∷ e₁ i ∷ e₂ i ∷ e₃ i ∷ []
 
-words-again : (k : ℕ) (s : List ℕ) → Bytes s → 4 * k ≤ length s → take (4 * k) s ≡ bytesOf (take k (wordsIn s))
+pub words-again : (k : ℕ) (s : List ℕ) → Bytes s → 4 * k ≤ length s → take (4 * k) s ≡ bytesOf (take k (wordsIn s))
 unfolding wordsIn bytesOf spread
 words-again zero s h l = refl
 words-again (suc k) [] h l = absurd (omega arith)
@@ -85,7 +85,7 @@ words-again (suc k) (a ∷ b ∷ c ∷ d ∷ s) h l =
     let e : 4 * suc k ≡ suc (suc (suc (suc (4 * k)))) = omega arith in
     rw (e, four-again a b c d (h .0) (h .1 .0) (h .1 .1 .0) (h .1 .1 .1 .0)) (ap (λ (r : List ℕ). a ∷ b ∷ c ∷ d ∷ r) (words-again k s (h .1 .1 .1 .1) (omega arith)))
 
-words-count : (s : List ℕ) (k : ℕ) → 4 * k ≤ length s → k ≤ length (wordsIn s)
+pub words-count : (s : List ℕ) (k : ℕ) → 4 * k ≤ length s → k ≤ length (wordsIn s)
 unfolding wordsIn
 words-count [] k h = omega arith
 words-count (a ∷ []) k h = omega arith
@@ -96,7 +96,7 @@ words-count (a ∷ b ∷ c ∷ d ∷ s) (suc k) h = omega (arith, words-count s 
 
 -- ---- the header's words
 
-five : (ws : List ℕ) → 5 ≤ length ws → ws ≡ getD ws 0 0 ∷ getD ws 1 0 ∷ getD ws 2 0 ∷ getD ws 3 0 ∷ getD ws 4 0 ∷ drop 5 ws
+pub five : (ws : List ℕ) → 5 ≤ length ws → ws ≡ getD ws 0 0 ∷ getD ws 1 0 ∷ getD ws 2 0 ∷ getD ws 3 0 ∷ getD ws 4 0 ∷ drop 5 ws
 five [] h = absurd (omega arith)
 five (a ∷ []) h = absurd (omega arith)
 five (a ∷ b ∷ []) h = absurd (omega arith)
@@ -104,7 +104,7 @@ five (a ∷ b ∷ c ∷ []) h = absurd (omega arith)
 five (a ∷ b ∷ c ∷ d ∷ []) h = absurd (omega arith)
 five (a ∷ b ∷ c ∷ d ∷ e ∷ ws) h = refl
 
-word-small : (s : List ℕ) (i : ℕ) → Bytes s → getD (wordsIn s) i 0 < 2 ^ 32
+pub word-small : (s : List ℕ) (i : ℕ) → Bytes s → getD (wordsIn s) i 0 < 2 ^ 32
 unfolding wordsIn
 word-small [] i h = omega arith
 word-small (a ∷ []) i h = omega arith

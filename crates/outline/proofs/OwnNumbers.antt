@@ -1,7 +1,7 @@
 -- The edges that a step leaves in own numbers, from 0 on: how many there are, and their words. Assumes nothing.
 use mathlib.Core.Path.{_≡_, sym, ap, _∙_}
 use mathlib.Core.List.{List}
-use Prim.Native.Nat.{ℕ, _/_, _≤_}
+use Prim.Native.Nat.{ℕ, _*_, _/_, _≤_}
 use native.Mathlib.Omega.{arith}
 use lib.IntN.{ℤ}
 use lib.ListN.{length, take, drop}
@@ -33,12 +33,12 @@ module _ {l₀ l₁ : List ℤ} {n : ℕ} {es : List Edge} (m : Most 9227 es) (p
   pub own-count : length es ≡ n / 4
   own-count = omega (arith, p .pos, edges-four es)
 
-  module _ (room : 36908 ≤ length l₀) where
+  module _ (room : 4 * length es ≤ length l₀) where
     pub own-inside : n ≤ length l₁
-    own-inside = omega (arith, own-small, written-length p)
+    own-inside = omega (arith, p .pos, edges-four es, room, written-length p)
 
     pub own-words : bodyWords es ≡ wordsOf (take n l₁)
     unfolding bodyWords
     own-words =
-        let long : length (spread edgeNumbers es) ≤ length l₀ = omega (arith, edges-four es, m .most) in
+        let long : length (spread edgeNumbers es) ≤ length l₀ = omega (arith, edges-four es, room) in
         ap wordsOf (sym (ap (take n) (written-whole p long) ∙ take-at (spread edgeNumbers es) (drop (length (spread edgeNumbers es)) l₀) n (omega (arith, p .pos))))

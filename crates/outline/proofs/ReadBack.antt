@@ -372,7 +372,7 @@ module _ (f : Form) (g : ℕ) (ps : List ℕ) (vs : List Vertex) (rest : List �
   unfolding lengthIn outlineWords partsWords headerOf
   length-back = rw (form-back f g ps vs rest h, count-back f g ps vs rest h, header-word f g ps vs rest h 4) (sym (outline-length f g ps vs))
 
-same-list : (l : List ℕ) → sameBytes l l ≡ true
+pub same-list : (l : List ℕ) → sameBytes l l ≡ true
 unfolding sameBytes
 same-list [] = refl
 same-list (a ∷ l) = rw (eq-eqb a a refl, sameBytes) (same-list l)
@@ -414,22 +414,27 @@ pub sound-is : (s : List ℕ) → soundOf s ≡ true → s ≡ dueIn s ++ drop (
 unfolding soundOf
 sound-is s h = sym (take-append-drop (lengthIn s) s) ∙ ap (λ (l : List ℕ). l ++ drop (lengthIn s) s) (same-is (take (lengthIn s) s) (dueIn s) h)
 
+-- where the words of a table fit, its posts suit it
+pub small-suits : (s : List ℕ) (e : Edition) → formIn s ≡ Stroke e → (e ≡ Second → (i : ℕ) → i < 5 * countIn s → getD (drop 5 (wordsIn s)) i 0 < 2 ^ 32) → Suits (Stroke e) (postsIn s) (pathIn s)
+unfolding postsIn strokeWords countPlace
+small-suits s First f h = rw f (posts-none (countIn s) (drop 5 (wordsIn s)) ∙ ap noPosts (sym (path-count-in s)))
+small-suits s Second f h = (posts-count-in s f ∙ sym (path-count-in s), rw f (posts-small (countIn s) (drop 5 (wordsIn s)) (h refl)))
+
 pub sound-suits : (s : List ℕ) (e : Edition) → formIn s ≡ Stroke e → soundOf s ≡ true → Suits (Stroke e) (postsIn s) (pathIn s)
-unfolding postsIn dueIn outlineBytes strokeBytes strokeWords countPlace
-sound-suits s First f h = rw f (posts-none (countIn s) (drop 5 (wordsIn s)) ∙ ap noPosts (sym (path-count-in s)))
-sound-suits s Second f h = (posts-count-in s f ∙ sym (path-count-in s), rw f (posts-small (countIn s) (drop 5 (wordsIn s)) small))
+unfolding dueIn outlineBytes strokeBytes strokeWords countPlace
+sound-suits s e f h = small-suits s e f small
   where
     due : List ℕ
     due = outlineWords (formIn s) (gradeIn s) (postsIn s) (pathIn s)
 
-    long : 5 + 5 * countIn s ≤ length due
-    long =
+    long : e ≡ Second → 5 + 5 * countIn s ≤ length due
+    long q =
         let m = length (edgesFor (formIn s) (gradeIn s) (pathIn s)) in
-        let e : lengthOf (formIn s) (length (pathIn s)) m ≡ lengthOf (Stroke Second) (length (pathIn s)) m = ap (λ (o : Form). lengthOf o (length (pathIn s)) m) f in
-        omega (arith, bytes-length due, outline-length (formIn s) (gradeIn s) (postsIn s) (pathIn s), e, path-count-in s)
+        let k : lengthOf (formIn s) (length (pathIn s)) m ≡ lengthOf (Stroke Second) (length (pathIn s)) m = ap (λ (o : Form). lengthOf o (length (pathIn s)) m) (f ∙ ap Stroke q) in
+        omega (arith, bytes-length due, outline-length (formIn s) (gradeIn s) (postsIn s) (pathIn s), k, path-count-in s)
 
-    small : (i : ℕ) → i < 5 * countIn s → getD (drop 5 (wordsIn s)) i 0 < 2 ^ 32
-    small i l = rw (getD-drop 5 (wordsIn s) i 0) (subst (λ (x : List ℕ). getD (wordsIn x) (5 + i) 0 < 2 ^ 32) (sym (sound-is s h)) (words-small due (drop (lengthIn s) s) (5 + i) (omega (arith, l, long))))
+    small : e ≡ Second → (i : ℕ) → i < 5 * countIn s → getD (drop 5 (wordsIn s)) i 0 < 2 ^ 32
+    small q i l = rw (getD-drop 5 (wordsIn s) i 0) (subst (λ (x : List ℕ). getD (wordsIn x) (5 + i) 0 < 2 ^ 32) (sym (sound-is s h)) (words-small due (drop (lengthIn s) s) (5 + i) (omega (arith, l, long q))))
 
 -- those of vertices without point numbers suit edition 2
 pub plain-suits : (vs : List Vertex) → Suits (Stroke Second) (noPosts (length vs)) vs

@@ -24,9 +24,8 @@ use Rattle.checking.proofs.OtherKinds.{stroke-passes, kerb-refused}
 use Rattle.kerb.specs.declared.Style.{Style}
 use Rattle.outline.specs.declared.Edition.{Edition}
 use Rattle.outline.specs.declared.Form.the-variants.{Stroke, Kerb}
-use Rattle.editing.specs.Known.{Passed}
-use Rattle.editing.proofs.KnownStore.{known}
-use Rattle.editing.proofs.NewVertex.{known-few}
+use Rattle.checking.specs.Known.{Passed}
+use Rattle.checking.proofs.KnownStore.{known, known-few}
 use Rattle.reaching.specs.Replies.{reachedOf, reachReply, replyOfReached, Reaches}
 use Rattle.reaching.specs.declared.Reached.{Reached}
 use Rattle.reaching.specs.declared.Reached.the-variants.{To, Refused}

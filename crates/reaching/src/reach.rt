@@ -14,8 +14,9 @@ ghost use lib.ListN.{length, take};
 ghost use Rattle.contacts.specs.Limits.{firstOutside};
 ghost use Rattle.paths.specs.Paths.{pathOf};
 ghost use Rattle.replies.specs.Replies.{firstRow, indexRow};
-ghost use Rattle.editing.specs.Known.{Passed};
+ghost use Rattle.checking.specs.Known.{Passed};
 ghost use Rattle.reaching.specs.Replies.{reachedOf, replyOfReached, Reaches};
+ghost use Rattle.checking.specs.StoreRoom.{storePath, storeOwn};
 
 // The row of the index, and the reach, over the path of n vertices at the front of `path`.
 fn reach_in(path: &[i32], n: usize, index: usize) -> Reached
@@ -44,7 +45,7 @@ fn reach_stroke(store: &[u8], path: &[i32], h: Header, index: usize) -> Reached
 
 // How far another vertex at an index can reach; `path` and `own` are room to check the store in.
 pub fn reach_with(store: &[u8], index: usize, path: &mut [i32], own: &mut [i32]) -> Reached
-    requires { ⌜ (12288 ≤ length (now path)) × (36908 ≤ length (now own)) ⌝ }
+    requires { ⌜ (storePath (now store) ≤ length (now path)) × (storeOwn (now store) ≤ length (now own)) ⌝ }
     ensures { λ r. ⌜ Reaches (now (store .entry)) index r ⌝ }
 {
     let checked = check(store, path, own);

@@ -10,6 +10,7 @@ ghost use Prim.Native.Nat.{_≤_};
 ghost use lib.ListN.{length};
 ghost use Rattle.reading.specs.Reading.{Reads};
 ghost use Rattle.checking.specs.StoreChecks.{Sound};
+ghost use Rattle.checking.specs.StoreRoom.{storePath, storeOwn};
 
 pub mod posts;
 
@@ -37,7 +38,7 @@ fn read_path(s: &[u8], h: Header, out: &mut [i32]) -> Read
 
 // The path of a store, three numbers a vertex, of a kerb two, into lent numbers; `path` and `own` are room to check it in.
 pub fn read_with(store: &[u8], out: &mut [i32], path: &mut [i32], own: &mut [i32]) -> Read
-    requires { ⌜ (12288 ≤ length (now path)) × (36908 ≤ length (now own)) ⌝ }
+    requires { ⌜ (storePath (now store) ≤ length (now path)) × (storeOwn (now store) ≤ length (now own)) ⌝ }
     ensures { λ r. ⌜ Reads (now (store .entry)) (now (out .entry)) r (now (out .exit)) ⌝ }
 {
     let checked = check(store, path, own);

@@ -12,6 +12,7 @@ ghost use Prim.Native.Nat.{_≤_};
 ghost use lib.ListN.{length};
 ghost use Rattle.outline.specs.declared.Form.the-variants.{Stroke};
 ghost use Rattle.checking.specs.StoreChecks.{Sound};
+ghost use Rattle.checking.specs.StoreRoom.{storePath, storeOwn};
 ghost use Rattle.reading.specs.PostsReading.{ReadsPosts};
 
 // What reading the posts came to: how many, or why not.
@@ -47,7 +48,7 @@ fn stroke_posts(s: &[u8], h: Header, out: &mut [u32]) -> PostsRead
 
 // The posts of a store into lent numbers; `path` and `own` are room to check it in.
 pub fn posts_with(store: &[u8], out: &mut [u32], path: &mut [i32], own: &mut [i32]) -> PostsRead
-    requires { ⌜ (12288 ≤ length (now path)) × (36908 ≤ length (now own)) ⌝ }
+    requires { ⌜ (storePath (now store) ≤ length (now path)) × (storeOwn (now store) ≤ length (now own)) ⌝ }
     ensures { λ r. ⌜ ReadsPosts (now (store .entry)) (now (out .entry)) r (now (out .exit)) ⌝ }
 {
     let checked = check(store, path, own);

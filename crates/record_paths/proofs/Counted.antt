@@ -6,7 +6,7 @@ use native.Mathlib.Omega.{arith}
 use lib.IntN.{ℤ}
 use lib.ListN.{length}
 use borrow.Author.Tests.{lt-ltb, le-ltb}
-use Rattle.replies.specs.Replies.{firstRow, gradeRow, countRow}
+use Rattle.replies.specs.Replies.{firstRow, drawGradeRow, countRow}
 use Rattle.replies.specs.Checks.{PathSays}
 use Rattle.replies.specs.declared.Refusal.{Refusal}
 use Rattle.replies.specs.declared.Refusal.the-variants.{TooMany, Grade}
@@ -39,28 +39,28 @@ module _ (n g : ℕ) where
     passed = λ m e. absurd (refused-not e);
   }
 
-  pub low-grade : g < 1 → CountSays n g (Refused (Grade g))
-  unfolding wantedOf firstRow gradeRow
-  low-grade h = refuses (Grade g) (λ path e. grade-low path g (thirds path e .0) h) (rw (lt-ltb g 1 h, firstRow))
+  pub low-grade : g < 2 → CountSays n g (Refused (Grade g))
+  unfolding wantedOf firstRow drawGradeRow
+  low-grade h = refuses (Grade g) (λ path e. grade-low path g (thirds path e .0) h) (rw (lt-ltb g 2 h, firstRow))
 
-  pub high-grade : 1 ≤ g → 8 < g → CountSays n g (Refused (Grade g))
-  unfolding wantedOf firstRow gradeRow
-  high-grade low h = refuses (Grade g) (λ path e. grade-high path g (thirds path e .0) low h) (rw (le-ltb g 1 low, lt-ltb 8 g h, firstRow))
+  pub high-grade : 2 ≤ g → 8 < g → CountSays n g (Refused (Grade g))
+  unfolding wantedOf firstRow drawGradeRow
+  high-grade low h = refuses (Grade g) (λ path e. grade-high path g (thirds path e .0) low h) (rw (le-ltb g 2 low, lt-ltb 8 g h, firstRow))
 
-  pub many : 1 ≤ g → g ≤ 8 → 4096 < n → CountSays n g (Refused (TooMany n))
-  unfolding wantedOf firstRow gradeRow countRow
+  pub many : 2 ≤ g → g ≤ 8 → 4096 < n → CountSays n g (Refused (TooMany n))
+  unfolding wantedOf firstRow drawGradeRow countRow
   many low high h =
       refuses (TooMany n)
       (λ path e.
       let k = thirds path e .1 in
       let s : PathSays path g (Refused (TooMany (length path / 3))) = too-many path g (thirds path e .0) low high (omega (arith, k, h)) in
       rw k at s)
-      (rw (le-ltb g 1 low, le-ltb 8 g high, firstRow, lt-ltb 4096 n h, firstRow))
+      (rw (le-ltb g 2 low, le-ltb 8 g high, firstRow, lt-ltb 4096 n h, firstRow))
 
-  pub few : 1 ≤ g → g ≤ 8 → n ≤ 4096 → CountSays n g (Passed n)
-  unfolding wantedOf firstRow gradeRow countRow
+  pub few : 2 ≤ g → g ≤ 8 → n ≤ 4096 → CountSays n g (Passed n)
+  unfolding wantedOf firstRow drawGradeRow countRow
   few low high h = record {
     refused = λ path why long e. absurd (refused-not (sym e));
     wanted = λ why e. absurd (refused-not (sym e));
-    passed = λ m e. (ap passing (sym e), rw (le-ltb g 1 low, le-ltb 8 g high, firstRow, le-ltb 4096 n h, firstRow), h);
+    passed = λ m e. (ap passing (sym e), rw (le-ltb g 2 low, le-ltb 8 g high, firstRow, le-ltb 4096 n h, firstRow), h);
   }

@@ -10,7 +10,7 @@ use Rattle.runs.specs.Runs.{spread}
 use Rattle.records.specs.Records.{recordNumbers}
 use Rattle.records.specs.declared.Record.{Record}
 use Rattle.records.proofs.Gathered.{records-three}
-use Rattle.replies.specs.Replies.{Row, Reply, firstRow, triplesRow, gradeRow, countRow, outsideRow, emptyRow, roomRow, pathRows}
+use Rattle.replies.specs.Replies.{Row, Reply, firstRow, triplesRow, drawGradeRow, countRow, outsideRow, emptyRow, roomRow, pathRows}
 use Rattle.drawing.specs.Drawing.{drawReply}
 use Rattle.keeping.specs.Keeping.{keepReply, writeRows}
 use Rattle.record_paths.specs.RecordPaths.{NeverUneven}
@@ -34,5 +34,5 @@ unfolding triplesRow
 whole vs = ap not (eq-eqb (length (spread recordNumbers vs) % 3) 0 (omega (arith, records-three vs)))
 
 pub never-uneven : NeverUneven
-unfolding drawReply keepReply writeRows pathRows gradeRow countRow outsideRow emptyRow roomRow
+unfolding drawReply keepReply writeRows pathRows drawGradeRow countRow outsideRow emptyRow roomRow
 never-uneven vs ps g room = (none-one _ _ ((λ e _. true≢false (sym e ∙ whole vs)), ((λ _ e. omega (arith, e)), ((λ _ e. omega (arith, e)), ((λ _ e. omega (arith, e)), ((λ _ e. omega (arith, e)), ((λ _ e. omega (arith, e)), tt)))))) (λ e. omega (arith, e)), none-one _ _ ((λ e _. true≢false (sym e ∙ whole vs)), ((λ _ e. omega (arith, e)), ((λ _ e. omega (arith, e)), ((λ _ e. omega (arith, e)), ((λ _ e. omega (arith, e)), ((λ _ e. omega (arith, e)), tt)))))) (λ e. omega (arith, e)))

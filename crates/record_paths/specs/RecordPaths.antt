@@ -1,13 +1,14 @@
--- Document 02, request 4: a path of n records as numbers, three a record, of which those stand gathered that draw and keep read.
+-- Document 02, requests 4 and 11: a path of n records as numbers, three a record, and their posts, of which those stand gathered that draw and keep read.
 use mathlib.Core.Path.{_≡_}
 use mathlib.Core.List.{List, [], _∷_}
 use Prim.Native.Nat.{ℕ, _*_, _≤_}
 use lib.IntN.{ℤ}
-use lib.ListN.{length, take}
+use lib.ListN.{length, take, drop}
 use Rattle.runs.specs.Runs.{spread}
+use Rattle.words.specs.Words.{wordsOf}
 use Rattle.records.specs.Records.{recordNumbers}
 use Rattle.records.specs.declared.Record.{Record}
-use Rattle.replies.specs.Replies.{firstRow, gradeRow, countRow}
+use Rattle.replies.specs.Replies.{firstRow, drawGradeRow, countRow}
 use Rattle.replies.specs.Checks.{PathSays}
 use Rattle.replies.specs.declared.Refusal.{Refusal}
 use Rattle.replies.specs.declared.path_rows.PathCheck.{PathCheck}
@@ -17,12 +18,14 @@ use Rattle.keeping.specs.Keeping.{keepReply}
 
 -- How many of n records are read: none where 3 or 2 is the reply, else all.
 unfoldable pub wantedOf : ℕ → ℕ → ℕ
-wantedOf n g = firstRow ((gradeRow g .0, 0) ∷ (countRow n .0, 0) ∷ []) n
+wantedOf n g = firstRow ((drawGradeRow g .0, 0) ∷ (countRow n .0, 0) ∷ []) n
 
--- The path is three numbers a record, and those that are wanted stand first among the numbers.
-pub record Gathered (numbers : List ℤ) (n grade : ℕ) (path : List ℤ) : Type 0 where
+-- The path is three numbers a record, its posts one, and those that are wanted stand first among the numbers: the path's, and then the posts.
+pub record Gathered (numbers : List ℤ) (n grade : ℕ) (path : List ℤ) (posts : List ℕ) : Type 0 where
   pub long : length path ≡ 3 * n
+  pub many : length posts ≡ n
   pub first : take (3 * wantedOf n grade) numbers ≡ take (3 * wantedOf n grade) path
+  pub after : wordsOf (take (wantedOf n grade) (drop (3 * wantedOf n grade) numbers)) ≡ take (wantedOf n grade) posts
 
 -- What grade and count decide of every path of so many records.
 pub record CountSays (n grade : ℕ) (r : PathCheck) : Type 0 where

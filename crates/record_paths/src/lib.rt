@@ -9,7 +9,7 @@ ghost use Rattle.record_paths.specs.RecordPaths.{wantedOf, CountSays};
 pub fn check_count(n: usize, grade: u32) -> PathCheck
     ensures { λ r. ⌜ CountSays n grade r ⌝ }
 {
-    if grade < 1 {
+    if grade < 2 {
         return PathCheck::Refused(Refusal::Grade(grade));
     }
     if 8 < grade {

@@ -18,7 +18,7 @@ use Rattle.paths.specs.Paths.{pathOf, bodiesAt, bodiesOf, joined, edgesOf, With
 use Rattle.paths.proofs.Most.{edges-most}
 use Rattle.paths.proofs.PathWalk.{path-count}
 use Rattle.contacts.specs.declared.Vertex.{Vertex}
-use Rattle.replies.specs.Replies.{Reply, Row, firstRow, triplesRow, gradeRow, countRow, outsideRow, pathRows}
+use Rattle.replies.specs.Replies.{Reply, Row, firstRow, triplesRow, drawGradeRow, countRow, outsideRow, pathRows}
 use Rattle.replies.specs.Refusals.{refusalOf}
 use Rattle.replies.specs.Checks.{Fits, orPath, PathSays}
 use Rattle.replies.proofs.Rows.{rows-append}
@@ -44,52 +44,52 @@ module _ (path : List ℤ) (g : ℕ) where
   not-triples h = refused (Uneven (length path)) (λ more. rw (ne-eqb (length path % 3) 0 h, firstRow))
 
   module _ (h₁ : length path % 3 ≡ 0) where
-    pub grade-low : g < 1 → PathSays path g (Refused (Grade g))
-    unfolding pathRows triplesRow gradeRow firstRow refusalOf
-    grade-low h = refused (Grade g) (λ more. rw (eq-eqb (length path % 3) 0 h₁, firstRow, lt-ltb g 1 h, firstRow))
+    pub grade-low : g < 2 → PathSays path g (Refused (Grade g))
+    unfolding pathRows triplesRow drawGradeRow firstRow refusalOf
+    grade-low h = refused (Grade g) (λ more. rw (eq-eqb (length path % 3) 0 h₁, firstRow, lt-ltb g 2 h, firstRow))
 
-    module _ (low : 1 ≤ g) where
+    module _ (low : 2 ≤ g) where
       pub grade-high : 8 < g → PathSays path g (Refused (Grade g))
-      unfolding pathRows triplesRow gradeRow firstRow refusalOf
-      grade-high h = refused (Grade g) (λ more. rw (eq-eqb (length path % 3) 0 h₁, firstRow, le-ltb g 1 low, lt-ltb 8 g h, firstRow))
+      unfolding pathRows triplesRow drawGradeRow firstRow refusalOf
+      grade-high h = refused (Grade g) (λ more. rw (eq-eqb (length path % 3) 0 h₁, firstRow, le-ltb g 2 low, lt-ltb 8 g h, firstRow))
 
       module _ (high : g ≤ 8) where
         pub too-many : 4096 < length path / 3 → PathSays path g (Refused (TooMany (length path / 3)))
-        unfolding pathRows triplesRow gradeRow countRow firstRow refusalOf
+        unfolding pathRows triplesRow drawGradeRow countRow firstRow refusalOf
         too-many h = refused (TooMany (length path / 3))
-            (λ more. rw (eq-eqb (length path % 3) 0 h₁, firstRow, le-ltb g 1 low, le-ltb 8 g high, firstRow, path-count path, lt-ltb 4096 (length path / 3) h, firstRow) (ap (λ (n : ℕ). (2, n)) (path-count path)))
+            (λ more. rw (eq-eqb (length path % 3) 0 h₁, firstRow, le-ltb g 2 low, le-ltb 8 g high, firstRow, path-count path, lt-ltb 4096 (length path / 3) h, firstRow) (ap (λ (n : ℕ). (2, n)) (path-count path)))
 
         module _ (few : length path / 3 ≤ 4096) where
           count : length (pathOf path) ≤ 4096
           count = omega (arith, path-count path)
 
           pub outside : {i : ℕ} → i ≡ firstOutside (pathOf path) → i < length path / 3 → PathSays path g (Refused (Outside i))
-          unfolding pathRows triplesRow gradeRow countRow outsideRow firstRow refusalOf
+          unfolding pathRows triplesRow drawGradeRow countRow outsideRow firstRow refusalOf
           outside {i} e h =
               let k : firstOutside (pathOf path) < length (pathOf path) = omega (arith, path-count path) in
               refused (Outside i)
-              (λ more. rw (e, eq-eqb (length path % 3) 0 h₁, firstRow, le-ltb g 1 low, le-ltb 8 g high, firstRow, le-ltb 4096 (length (pathOf path)) count, firstRow, lt-ltb (firstOutside (pathOf path)) (length (pathOf path)) k, firstRow))
+              (λ more. rw (e, eq-eqb (length path % 3) 0 h₁, firstRow, le-ltb g 2 low, le-ltb 8 g high, firstRow, le-ltb 4096 (length (pathOf path)) count, firstRow, lt-ltb (firstOutside (pathOf path)) (length (pathOf path)) k, firstRow))
 
           pub passes : {i : ℕ} → i ≡ firstOutside (pathOf path) → length path / 3 ≤ i → PathSays path g (Passed (length path / 3))
-          unfolding pathRows triplesRow gradeRow countRow outsideRow firstRow orPath
+          unfolding pathRows triplesRow drawGradeRow countRow outsideRow firstRow orPath
           passes {i} e h =
               let k : length (pathOf path) ≤ firstOutside (pathOf path) = omega (arith, path-count path) in
               let says : (more : Reply) → firstRow (pathRows path g) more ≡ more =
-              λ more. rw (eq-eqb (length path % 3) 0 h₁, firstRow, le-ltb g 1 low, le-ltb 8 g high, firstRow, le-ltb 4096 (length (pathOf path)) count, firstRow, le-ltb (firstOutside (pathOf path)) (length (pathOf path)) k, firstRow) in
+              λ more. rw (eq-eqb (length path % 3) 0 h₁, firstRow, le-ltb g 2 low, le-ltb 8 g high, firstRow, le-ltb 4096 (length (pathOf path)) count, firstRow, le-ltb (firstOutside (pathOf path)) (length (pathOf path)) k, firstRow) in
               record {
                 says = says;
                 fits = λ n f. record {
                   count = let c : length path / 3 ≡ n = cc in sym c ∙ sym (path-count path);
-                  within = record { low = low; high = high; count = count; inside = le-antisymm (outside-most (pathOf path)) k };
+                  within = record { low = omega (arith, low); high = high; count = count; inside = le-antisymm (outside-most (pathOf path)) k };
                   passed = says;
                 };
               }
 
--- numbers lent as triples whose path is within the limits pass
-pub within-fits : (path : List ℤ) {g : ℕ} → length path % 3 ≡ 0 → Within g (pathOf path) → Fits path g (length path / 3)
-within-fits path {g} h w =
+-- numbers lent as triples whose path is within the limits pass, from grade 2 on
+pub within-fits : (path : List ℤ) {g : ℕ} → length path % 3 ≡ 0 → 2 ≤ g → Within g (pathOf path) → Fits path g (length path / 3)
+within-fits path {g} h low w =
     let e : firstOutside (pathOf path) ≡ length path / 3 = w .inside ∙ path-count path in
-    passes path g h (w .low) (w .high) (omega (arith, path-count path, w .count)) {i = firstOutside (pathOf path)} refl (omega arith) .fits _ refl
+    passes path g h low (w .high) (omega (arith, path-count path, w .count)) {i = firstOutside (pathOf path)} refl (omega arith) .fits _ refl
 
 -- ---- drawing a path within the limits
 

@@ -5,9 +5,9 @@ use mathlib.Core.List.{List, [], _∷_, _++_}
 use Prim.Native.Nat.{ℕ, zero, suc, _+_, _≤_, _<_}
 use native.Mathlib.Omega.{arith}
 use lib.ListN.{length, drop}
-use borrow.Author.Tests.{le-ltb, lt-ltb, eq-eqb, ne-eqb}
+use borrow.Author.Tests.{le-ltb, lt-ltb, ltb-false, eq-eqb, ne-eqb}
 use Rattle.replies.specs.declared.Code.{Code}
-use Rattle.replies.specs.Replies.{Row, Reply, firstRow, emptyRow, roomRow, written}
+use Rattle.replies.specs.Replies.{Row, Reply, firstRow, drawGradeRow, emptyRow, roomRow, written}
 use lib.Dec.{eqb, ltb}
 use Rattle.replies.specs.Refusals.{refusalOf, Codes}
 use Rattle.replies.specs.declared.Refusal.{Refusal}
@@ -38,6 +38,19 @@ pub rows-append {ℓ} : {A : Type ℓ} (rs qs : List (Bool × A)) (last : A) →
 unfolding firstRow
 rows-append [] qs last = refl
 rows-append (r ∷ rs) qs last = λ i. elim (r .0) [ true ↦ r .1 | false ↦ rows-append rs qs last i ]
+
+-- the row of a grade to draw at
+pub grade-drawn : {g : ℕ} → 2 ≤ g → g ≤ 8 → drawGradeRow g .0 ≡ false
+unfolding drawGradeRow
+grade-drawn {g} low high = rw (le-ltb g 2 low, le-ltb 8 g high)
+
+pub grade-retired : {g : ℕ} → g < 2 → drawGradeRow g .0 ≡ true
+unfolding drawGradeRow
+grade-retired {g} h = rw (lt-ltb g 2 h)
+
+pub grade-above : {g : ℕ} → 2 ≤ g → 8 < g → drawGradeRow g .0 ≡ true
+unfolding drawGradeRow
+grade-above {g} low h = rw (le-ltb g 2 low, lt-ltb 8 g h)
 
 -- the row of a path without edges
 and-false : (b : Bool) → (b && false) ≡ false
@@ -121,9 +134,21 @@ first-none (row ∷ rows) last e h = go (row .0) refl h (first-none rows last (e
     go true f k r = absurd (true≢false (sym (eq-eqb (row .1 .0) 0 k) ∙ e .0))
     go false f k r = (f, r k)
 
+-- rows after rows: where the reply is 0 none of the first holds, and the others reply
+pub rows-zero : (rs qs : List Row) (last : Reply) → Coded rs → firstRow (rs ++ qs) last .0 ≡ 0 → NoneHold rs × (firstRow (rs ++ qs) last ≡ firstRow qs last)
+rows-zero rs qs last k e =
+    let a = rows-append rs qs last in
+    let n = first-none rs (firstRow qs last) k (ap (λ (r : Reply). r .0) (sym a) ∙ e) in
+    (n, a ∙ none-last rs (firstRow qs last) n)
+
 pub either : (a b : Bool) → (a || b) ≡ false → (a ≡ false) × (b ≡ false)
 either true b e = absurd (true≢false e)
 either false b e = (refl, e)
+
+-- a grade whose row failed is drawn at
+pub grade-from : (g : ℕ) → drawGradeRow g .0 ≡ false → (2 ≤ g) × (g ≤ 8)
+unfolding drawGradeRow
+grade-from g h = let e = either (ltb g 2) (ltb 8 g) h in (ltb-false g 2 (e .0), ltb-false 8 g (e .1))
 
 -- a reply and number from what the code has put into them
 pub coded-told : {c : Code} {a n : ℕ} {t : Reply} → (a, n) ≡ t → (c .reply ≡ a) × (c .number ≡ n) → Codes c t

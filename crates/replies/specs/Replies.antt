@@ -28,9 +28,13 @@ firstRow (row ∷ rows) last = elim (row .0) [ true ↦ row .1 | false ↦ first
 unfoldable pub triplesRow {ℓ} : {A : Type ℓ} → List A → Row
 triplesRow l = (not (eqb (length l % 3) 0), (1, length l))
 
--- 3, grade not 1 to 8: the grade.
+-- 3, a store's grade not 1 to 8: the grade.
 unfoldable pub gradeRow : ℕ → Row
 gradeRow g = (ltb g 1 || ltb 8 g, (3, g))
+
+-- Document 02, request 13. 3, a grade to draw at not 2 to 8: the grade.
+unfoldable pub drawGradeRow : ℕ → Row
+drawGradeRow g = (ltb g 2 || ltb 8 g, (3, g))
 
 -- 2, above 4,096 vertices: how many.
 unfoldable pub countRow : ℕ → Row
@@ -58,7 +62,7 @@ roomRow needed room number = (ltb room needed, (5, number))
 
 -- draw, keep: the rows of a path
 unfoldable pub pathRows : List ℤ → ℕ → List Row
-pathRows l g = triplesRow l ∷ gradeRow g ∷ countRow (length (pathOf l)) ∷ outsideRow (pathOf l) ∷ []
+pathRows l g = triplesRow l ∷ drawGradeRow g ∷ countRow (length (pathOf l)) ∷ outsideRow (pathOf l) ∷ []
 
 -- ---- lent memory
 

@@ -19,7 +19,7 @@ pub fn check_path(path: &[i32], grade: u32) -> PathCheck
     if m % 3 != 0 {
         return PathCheck::Refused(Refusal::Uneven(m));
     }
-    if grade < 1 {
+    if grade < 2 {
         return PathCheck::Refused(Refusal::Grade(grade));
     }
     if 8 < grade {

@@ -18,7 +18,7 @@ pub one-draw-kerb-reply : OneDrawKerbReply
 one-draw-kerb-reply points g r j c out a b o p h k = (one-reply _ _ a b (h .replies) (k .replies), h .out ∙ sym (k .out))
 
 pub one-keep-reply : OneKeepReply
-one-keep-reply path g out r q o p a b = (one-reply _ _ r q (a .replies) (b .replies), a .out ∙ sym (b .out))
+one-keep-reply path ps g out r q o p a b = (one-reply _ _ r q (a .replies) (b .replies), a .out ∙ sym (b .out))
 
 pub one-keep-kerb-reply : OneKeepKerbReply
 one-keep-kerb-reply points g r j c out a b o p h k = (one-reply _ _ a b (h .replies) (k .replies), h .out ∙ sym (k .out))

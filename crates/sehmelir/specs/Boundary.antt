@@ -15,7 +15,7 @@ use Rattle.outline.specs.declared.Form.the-variants.{Stroke, Kerb}
 use Rattle.replies.specs.Replies.{Reply as Answer}
 use Rattle.drawing.specs.Drawing.{drawReply, drawOut}
 use Rattle.kerb_drawing.specs.KerbDrawing.{drawKerbReply, drawKerbOut}
-use Rattle.keeping.specs.Keeping.{keepReply, keepOut, plainPosts}
+use Rattle.keeping.specs.Keeping.{keepReply, keepOut}
 use Rattle.kerb_keeping.specs.KerbKeeping.{keepKerbReply, keepKerbOut}
 use Rattle.reading.specs.Reading.{readReply, readGrade, readForm, readOut}
 use Rattle.reading.specs.PostsReading.{postsReply, postsOut}
@@ -45,10 +45,10 @@ pub record DrawKerbReplies (points : List ℤ) (grade radius join closed : ℕ) 
   pub replies : Replies r (drawKerbReply points grade radius join closed (length out₀)) 0
   pub out : out₁ ≡ drawKerbOut points grade radius join closed out₀
 
--- keep: reply, number and every lent byte afterwards; every post is 0
-pub record KeepReplies (path : List ℤ) (grade : ℕ) (out₀ : List ℕ) (r : Reply) (out₁ : List ℕ) : Type 0 where
-  pub replies : Replies r (keepReply path (plainPosts path) grade (length out₀)) 0
-  pub out : out₁ ≡ keepOut path (plainPosts path) grade out₀
+-- keep: reply, number and every lent byte afterwards
+pub record KeepReplies (path : List ℤ) (posts : List ℕ) (grade : ℕ) (out₀ : List ℕ) (r : Reply) (out₁ : List ℕ) : Type 0 where
+  pub replies : Replies r (keepReply path posts grade (length out₀)) 0
+  pub out : out₁ ≡ keepOut path posts grade out₀
 
 -- Document 02, request 3, keeping a kerb: reply, number and every lent byte afterwards
 pub record KeepKerbReplies (points : List ℤ) (grade radius join closed : ℕ) (out₀ : List ℕ) (r : Reply) (out₁ : List ℕ) : Type 0 where
@@ -129,7 +129,7 @@ abbrev pub OneDrawKerbReply : Type 0
 OneDrawKerbReply = (points : List ℤ) (g r j c : ℕ) (out : List ℤ) (a b : Reply) (o p : List ℤ) → DrawKerbReplies points g r j c out a o → DrawKerbReplies points g r j c out b p → (a ≡ b) × (o ≡ p)
 
 abbrev pub OneKeepReply : Type 0
-OneKeepReply = (path : List ℤ) (g : ℕ) (out : List ℕ) (r q : Reply) (o p : List ℕ) → KeepReplies path g out r o → KeepReplies path g out q p → (r ≡ q) × (o ≡ p)
+OneKeepReply = (path : List ℤ) (ps : List ℕ) (g : ℕ) (out : List ℕ) (r q : Reply) (o p : List ℕ) → KeepReplies path ps g out r o → KeepReplies path ps g out q p → (r ≡ q) × (o ≡ p)
 
 abbrev pub OneKeepKerbReply : Type 0
 OneKeepKerbReply = (points : List ℤ) (g r j c : ℕ) (out : List ℕ) (a b : Reply) (o p : List ℕ) → KeepKerbReplies points g r j c out a o → KeepKerbReplies points g r j c out b p → (a ≡ b) × (o ≡ p)

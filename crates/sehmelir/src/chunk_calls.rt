@@ -59,7 +59,7 @@ fn part_at(offset: u64, length: u64) -> Part
 }
 
 // A refusal, without a part.
-fn refused_part(r: Refusal) -> Part
+pub fn refused_part(r: Refusal) -> Part
     ensures { λ p. ⌜ PartReplies p (refusalOf r) 0 ⌝ }
 {
     let c = code(r);

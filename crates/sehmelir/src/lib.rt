@@ -24,7 +24,7 @@ ghost use Rattle.outline.specs.Theorems.{FormWithin};
 ghost use Rattle.outline.specs.declared.Form.the-variants.{Kerb};
 ghost use Rattle.replies.specs.Refusals.{refusalOf};
 ghost use Rattle.drawing.specs.Drawing.{replyOfDrawn};
-ghost use Rattle.keeping.specs.Keeping.{replyOfKept};
+ghost use Rattle.keeping.specs.Keeping.{plainPosts, replyOfKept};
 ghost use Rattle.reading.specs.Reading.{replyOfRead, gradeOfRead, formOfRead};
 ghost use Rattle.reading.specs.PostsReading.{replyOfPosts};
 ghost use Rattle.editing.specs.Replacing.{replyOfReplaced};
@@ -34,8 +34,11 @@ ghost use Rattle.oldest.specs.Taken.{coordinateOf, widthOf};
 ghost use Rattle.oldest.specs.Answers.{replyOfImported, replyOfExported};
 
 pub mod chunk_calls;
+pub mod convert_calls;
 pub mod reason_calls;
 pub mod record_calls;
+pub mod salvage_calls;
+pub mod side_calls;
 
 // Document 01's reply, the grade beside it (of a read outline, else 0), and the number with it.
 #[repr(C)]
@@ -284,7 +287,7 @@ pub extern "C" fn sehmelir_draw_kerb(
 // Keeps a path's outline as bytes.
 #[no_mangle]
 pub extern "C" fn sehmelir_keep(path: &[i32], grade: u32, out: &mut [u8]) -> Reply
-    ensures { λ p. ⌜ KeepReplies (now (path .entry)) grade (now (out .entry)) p (now (out .exit)) ⌝ }
+    ensures { λ p. ⌜ KeepReplies (now (path .entry)) (plainPosts (now (path .entry))) grade (now (out .entry)) p (now (out .exit)) ⌝ }
 {
     kept(calls::keep(path, grade, out))
 }

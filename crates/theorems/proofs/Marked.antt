@@ -17,14 +17,14 @@ use Rattle.paths.specs.Paths.{pathOf, bodiesFrom, bodiesAt, bodiesOf, joined, e
 use Rattle.words.specs.Words.{wordOf, numberOf, wordsOf, fourBytes, bytesOf, wordFrom, wordsIn, wordAt}
 use Rattle.outline.specs.Layout.{editionNumber, countPlace, strokeWords, strokeBytes}
 use Rattle.outline.specs.Outlines.{postWords, styleWords, headerOf, entryOf, tableOf, bodyWords, partsWords, outlineWords, outlineBytes}
-use Rattle.outline.specs.Stores.{editionOf, postIn, postsFrom, postsIn, editionIn, kindIn, formIn, gradeIn, countIn, lengthIn, radiusIn, entriesIn, pathIn, dueIn, sameBytes, soundOf}
-use Rattle.replies.specs.Replies.{firstRow, triplesRow, gradeRow, countRow, outsideRow, emptyRow, roomRow, pathRows}
+use Rattle.outline.specs.Stores.{editionOf, postIn, postsFrom, postsIn, editionIn, kindIn, formIn, gradeIn, countIn, lengthIn, radiusIn, entriesIn, pathIn, dueIn, bodiesIn, sameBytes, soundOf}
+use Rattle.replies.specs.Replies.{firstRow, triplesRow, gradeRow, drawGradeRow, countRow, outsideRow, emptyRow, roomRow, pathRows}
 use Rattle.heading.specs.StoreRows.{editionRow, kindRow, leastOf, misplacedOf, unfitRow, styleRowIn, lengthRow, soundRow, storeRows}
 use Rattle.replies.specs.StyleRows.{styleFault, styleRow}
 use Rattle.drawing.specs.Drawing.{drawReply}
 use Rattle.reading.specs.Reading.{readReply}
-use Rattle.theorems.specs.Examples.{ExamplesHold, minus, plain, bytes, words, numbered, lengths, counts, edges, reply, reading, examples, further, answersOf, answersTold}
+use Rattle.theorems.specs.Examples.{ExamplesHold, minus, plain, stored, bytes, words, numbered, lengths, counts, edges, reading, reply, examples, further, answersOf, answersTold}
 
 pub examples-hold : ExamplesHold
-unfolding leadingZeros spread correctedOf rootIn rootOf rootUpOf nearestOf roundedOf mulDivOf sameNumber samePoint fromTo crossOf dotOf squareOf partOf componentOf directionOf stepOf rotatedOf scaledOf edgeNumbers edgeOf sweepOf isMajor emptyOf fullOf ringOf nearOf stopsOf turnsOf sweptOf eastOf westOf circleOf arcOf allowedOf firstOutside centreOf lineOf deltaOf shiftOf tangentOf numeratorOf contactOf sideOf trendOf sectionOf largerOf brokenOf kindOf turnOf inwardOf insideOf coversOf coveredOf innerOf arcAbout startChoice startCap endChoice endCap alongOf bendOf leftTurns leftJoin rightTurns rightJoin sameCentre gapOf joinOf freshOf bothButt loneOf finishLast finishOf meetLast drawnOf breakEnd breakStart leaveEdges leaveChain leaveClosing markedOf emittedOf nextChain nextLast nextClosing nextOf startOf bodiesFrom bodiesAt bodiesOf joined edgesOf wordOf wordsOf fourBytes bytesOf headerOf styleWords entryOf tableOf bodyWords partsWords outlineWords outlineBytes pathOf firstRow triplesRow gradeRow countRow outsideRow emptyRow roomRow pathRows drawReply numberOf wordFrom wordsIn wordAt editionIn kindIn formIn gradeIn countIn lengthIn radiusIn entriesIn pathIn dueIn sameBytes soundOf editionRow kindRow leastOf unfitRow styleFault styleRow styleRowIn lengthRow soundRow storeRows readReply minus plain bytes words lengths counts edges reply reading examples further answersOf answersTold editionNumber countPlace strokeWords strokeBytes postWords editionOf postIn postsFrom postsIn misplacedOf numbered
+unfolding leadingZeros spread correctedOf rootIn rootOf rootUpOf nearestOf roundedOf mulDivOf sameNumber samePoint fromTo crossOf dotOf squareOf partOf componentOf directionOf stepOf rotatedOf scaledOf edgeNumbers edgeOf sweepOf isMajor emptyOf fullOf ringOf nearOf stopsOf turnsOf sweptOf eastOf westOf circleOf arcOf allowedOf firstOutside centreOf lineOf deltaOf shiftOf tangentOf numeratorOf contactOf sideOf trendOf sectionOf largerOf brokenOf kindOf turnOf inwardOf insideOf coversOf coveredOf innerOf arcAbout startChoice startCap endChoice endCap alongOf bendOf leftTurns leftJoin rightTurns rightJoin sameCentre gapOf joinOf freshOf bothButt loneOf finishLast finishOf meetLast drawnOf breakEnd breakStart leaveEdges leaveChain leaveClosing markedOf emittedOf nextChain nextLast nextClosing nextOf startOf bodiesFrom bodiesAt bodiesOf joined edgesOf wordOf wordsOf fourBytes bytesOf headerOf styleWords entryOf tableOf bodyWords partsWords outlineWords outlineBytes pathOf firstRow triplesRow gradeRow drawGradeRow countRow outsideRow emptyRow roomRow pathRows drawReply numberOf wordFrom wordsIn wordAt editionIn kindIn formIn gradeIn countIn lengthIn radiusIn entriesIn pathIn dueIn bodiesIn sameBytes soundOf editionRow kindRow leastOf unfitRow styleFault styleRow styleRowIn lengthRow soundRow storeRows readReply minus plain stored bytes words lengths counts edges reply reading examples further answersOf answersTold editionNumber countPlace strokeWords strokeBytes postWords editionOf postIn postsFrom postsIn misplacedOf numbered
 examples-hold = refl

@@ -1,7 +1,6 @@
 -- The theorems through the calls: after the reply 0 no row held, so what stands in lent bytes is an outline within the limits, and what is known of
 -- outlines holds of it. Assumes nothing.
 use mathlib.Core.Path.{_≡_, refl, sym, ap, _∙_}
-use mathlib.Core.Bool.{true}
 use mathlib.Core.List.{List, [], _∷_, _++_, append-assoc}
 use Prim.Native.Nat.{ℕ, _+_, _-_, _*_, _%_, _≤_, _<_}
 use native.Mathlib.Omega.{arith}
@@ -16,14 +15,13 @@ use Rattle.contacts.specs.declared.Vertex.{Vertex}
 use Rattle.turning.specs.declared.Edge.{Edge}
 use Rattle.words.specs.Words.{bytesOf}
 use Rattle.outline.specs.Outlines.{bodyWords, outlineBytes}
-use Rattle.outline.specs.Stores.{editionIn, editionOf, formIn, gradeIn, lengthIn, pathIn, postsIn, dueIn, bodiesIn, soundOf, bodyBytesIn}
+use Rattle.outline.specs.Stores.{editionIn, editionOf, gradeIn, pathIn, postsIn, bodiesIn, bodyBytesIn}
 use Rattle.replies.specs.Replies.{Reply, indexRow}
 use Rattle.heading.specs.StoreRows.{storeRows}
 use Rattle.keeping.specs.Keeping.{keepReply, keepOut, plainPosts}
 use Rattle.editing.specs.Replacing.{replacedOf, replaceReply, replaceOut}
 use Rattle.theorems.specs.Theorems.{KeepRead, KeepPostsRead, PlainSuits, KeepKerbRead, ReplacedIsKept, BytesKept, NumberKeeps}
-use Rattle.outline.specs.Theorems.{BodyBytes}
-use Rattle.replies.proofs.Rows.{none-last}
+use Rattle.replies.proofs.Rows.{first-skip, none-last}
 use Rattle.kerb_paths.specs.Points.{kerbPath}
 use Rattle.kerb_paths.proofs.PointsAhead.{point-count}
 use Rattle.heading.specs.Shows.{pointNumbers}
@@ -32,28 +30,15 @@ use Rattle.kerb_keeping.proofs.KerbKept.{kerb-pairs, kerb-formed, kerb-out}
 use Rattle.keeping.proofs.PathKept.{path-is-kept, keep-triples, keep-within, keep-out}
 use Rattle.reading.proofs.KeptRead.{kept-is-read}
 use Rattle.reading.proofs.PostsAnswers.{kept-posts-are-read}
-use Rattle.outline.proofs.ReadBack.{numbers-count, sound-is, sound-suits, plain-suits}
-use Rattle.editing.proofs.Changed.{replace-none, within-store, within-set, some-set, sound-store, stroke-store, stroke-replaced, out-is, replaced-is-sound, store-kept}
+use Rattle.outline.proofs.ReadBack.{numbers-count, plain-suits}
+use Rattle.editing.proofs.Changed.{replace-none, within-store, grade-store, within-set, some-set, sound-store, stroke-store, stroke-replaced, out-is, replaced-is-sound, store-kept}
 use Rattle.heading.proofs.Shown.{path-back}
-use Rattle.outline.proofs.BodiesInBytes.{body-bytes}
-use Rattle.outline.specs.declared.Edition.{Edition}
+use Rattle.outline.proofs.BodiesInBytes.{body-bytes-in}
 use Rattle.outline.specs.declared.Edition.the-variants.{Second}
-use Rattle.outline.specs.declared.Form.{Form}
 use Rattle.outline.specs.declared.Form.the-variants.{Stroke}
 use Rattle.reaching.proofs.TheNumber.{number-is, lesser}
 
 -- ---- the bytes of a body in a sound store
-
--- a sound store begins with what is due
-pub sound-begins : (s : List ℕ) → soundOf s ≡ true → s ≡ outlineBytes (formIn s) (gradeIn s) (postsIn s) (pathIn s) ++ drop (lengthIn s) s
-unfolding dueIn
-sound-begins s e = sound-is s e
-
-pub body-bytes-in : BodyBytes
-unfolding bodiesIn
-body-bytes-in s i d o w e l =
-    ap (λ (x : List ℕ). bodyBytesIn x i) (sound-begins s e ∙ ap (λ (f : Form). outlineBytes f (gradeIn s) (postsIn s) (pathIn s) ++ drop (lengthIn s) s) o)
-    ∙ body-bytes d (gradeIn s) (postsIn s) (pathIn s) (drop (lengthIn s) s) (w, sound-suits s d o e) i l
 
 module _ (s : List ℕ) (k : ℕ) (v : Vertex) (h : replaceReply s k v .0 ≡ 0) where
   -- where a body stays, its bytes do
@@ -67,12 +52,12 @@ module _ (s : List ℕ) (k : ℕ) (v : Vertex) (h : replaceReply s k v .0 ≡ 0)
       ∙ sym (body-bytes-in s i (editionOf (editionIn s)) (stroke-store s k v h) (within-store s k v h) (sound-store s k v h) l)
 
 pub bytes-kept : BytesKept
-unfolding storeRows indexRow
+unfolding indexRow
 bytes-kept s k v h =
     let kept = store-kept s k v h in
     let old = bodiesIn s in
     let new = bodiesIn (replaceOut s k v) in
-    let few : k < length (pathIn s) = leb-false _ _ (replace-none s k v h .1 .1 .1 .1 .1 .1 .1 .1 .1 .1 .0) in (
+    let few : k < length (pathIn s) = leb-false _ _ (replace-none s k v h .1 .1 .1 .0) in (
       λ i l. bytes-stay s k v h i (omega arith) (sym (getD-take k new i [] l) ∙ ap (λ (bs : List (List Edge)). getD bs i []) (kept .0) ∙ getD-take k old i [] l),
       λ far i l m.
           let j = reachOf (pathIn s) k + 1 in
@@ -127,7 +112,9 @@ keep-kerb-read l g r j c out room h k =
 
 replaced-long : (s : List ℕ) (k : ℕ) (v : Vertex) {m : ℕ} → replaceReply s k v ≡ (0, m) → m ≡ length (replacedOf s k v)
 unfolding replaceReply
-replaced-long s k v e = ap (λ (r : Reply). r .1) (sym e ∙ none-last _ _ (replace-none s k v (ap (λ (r : Reply). r .0) e)))
+replaced-long s k v e =
+    let n = replace-none s k v (ap (λ (r : Reply). r .0) e) in
+    ap (λ (r : Reply). r .1) (sym e ∙ first-skip (storeRows s) _ _ (n .0) ∙ none-last _ _ (n .1))
 
 pub replaced-is-kept : ReplacedIsKept
 unfolding replacedOf
@@ -148,7 +135,7 @@ replaced-is-kept s k v room m z h e l =
       λ f.
           let b : outlineBytes (Stroke Second) g ps (pathOf path) ≡ new = λ i. outlineBytes (sym f i) g ps (p i) in
           let kr : keepReply path ps g (length room) ≡ (0, m) =
-          path-is-kept path ps g (length room) q (rw p (within-set s k v h₀)) (rw p (some-set s k v h₀)) (omega (arith, ap length b)) ∙ ap (λ (x : ℕ). (0, x)) (ap length b ∙ n) in
+          path-is-kept path ps g (length room) q (grade-store s k v h₀) (rw p (within-set s k v h₀)) (rw p (some-set s k v h₀)) (omega (arith, ap length b)) ∙ ap (λ (x : ℕ). (0, x)) (ap length b ∙ n) in
           let ko : keepOut path ps g room ≡ new ++ drop (length new) room = rw b at (keep-out path ps g room (ap (λ (r : Reply). r .0) kr)) in
           (kr, ap (take m) ro ∙ take-at new _ m n ∙ sym (ap (take m) ko ∙ take-at new _ m n)),
       ap (λ (x : List ℕ). take z (drop m x)) ro ∙ ap (take z) (drop-at new _ m n) ∙ take-at zeros _ z (length-replicate {A = ℕ} z 0),

@@ -56,7 +56,7 @@ fn lines(directory: &Path) -> io::Result<Vec<Vec<i32>>> {
 }
 
 /// The bytes of a line's outline; 0 of one that keep refuses.
-fn needed(line: &[i32], grade: u32) -> usize {
+pub fn needed(line: &[i32], grade: u32) -> usize {
     match sehmelir::keep(line, grade, &mut []) {
         Err(sehmelir::Refusal::NoRoom(bytes)) => bytes,
         _ => 0,
@@ -64,7 +64,12 @@ fn needed(line: &[i32], grade: u32) -> usize {
 }
 
 /// Keeps all lines, each thread in a room of its own: how many bytes that is.
-fn keep_all(lines: &[Vec<i32>], grade: u32, threads: usize, longest: usize) -> io::Result<usize> {
+pub fn keep_all(
+    lines: &[Vec<i32>],
+    grade: u32,
+    threads: usize,
+    longest: usize,
+) -> io::Result<usize> {
     let (next, bytes) = (AtomicUsize::new(0), AtomicUsize::new(0));
     let work = || {
         let mut room = vec![0; longest];

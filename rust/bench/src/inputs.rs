@@ -17,7 +17,10 @@ impl Input {
     /// A line that winds onwards, its width never the same: every step is
     /// drawn, and every joint is round on one side.
     pub fn hedge(count: usize) -> Input {
-        let mut random = Random::new(7);
+        Input::random_hedge(&mut Random::new(7), count)
+    }
+
+    fn random_hedge(random: &mut Random, count: usize) -> Input {
         let (mut x, mut y) = (0, 0);
         let vertices = (0..count).map(|_| {
             let vertex = [x, y, random.between(400, 699) as i32];
@@ -26,6 +29,26 @@ impl Input {
             vertex
         });
         Input::new(format!("hedge of {count}"), vertices)
+    }
+
+    /// A sheet of short lines: hedges of 2 to 40 vertices.
+    pub fn lines(count: usize) -> Vec<Input> {
+        let mut random = Random::new(34);
+        let mut line = || {
+            let vertices = random.between(2, 40) as usize;
+            Input::random_hedge(&mut random, vertices)
+        };
+        (0..count).map(|_| line()).collect()
+    }
+
+    /// The same path cut into pieces of so many vertices, each an input.
+    pub fn cut(&self, vertices: usize) -> Vec<Input> {
+        let pieces = self.path.chunks(3 * vertices);
+        let piece = |path: &[i32]| Input {
+            name: self.name.clone(),
+            path: path.to_vec(),
+        };
+        pieces.map(piece).collect()
     }
 
     /// A sheet of circles: every step is broken, and every vertex is a circle.
@@ -58,23 +81,22 @@ impl Input {
         self.vertices() / 2
     }
 
-    /// The vertex in the middle.
-    pub fn middle_vertex(&self) -> [i32; 3] {
-        let at = 3 * self.middle();
+    /// The vertex of an index.
+    pub fn vertex(&self, index: usize) -> [i32; 3] {
+        let at = 3 * index;
         [self.path[at], self.path[at + 1], self.path[at + 2]]
     }
 
-    /// Where replacing moves the vertex in the middle.
-    pub fn moved_vertex(&self) -> [i32; 3] {
-        let [x, y, radius] = self.middle_vertex();
+    /// Where replacing moves it.
+    pub fn moved_vertex(&self, index: usize) -> [i32; 3] {
+        let [x, y, radius] = self.vertex(index);
         [x + 3, y - 5, radius + 2]
     }
 
-    /// The path with the vertex in the middle moved.
-    pub fn moved_path(&self) -> Vec<i32> {
+    /// The path with that vertex moved.
+    pub fn moved_path(&self, index: usize) -> Vec<i32> {
         let mut path = self.path.clone();
-        let at = 3 * self.middle();
-        path[at..at + 3].copy_from_slice(&self.moved_vertex());
+        path[3 * index..][..3].copy_from_slice(&self.moved_vertex(index));
         path
     }
 }

@@ -1,10 +1,14 @@
-//! Times the proved library beside `plain`, in one process, on the same
-//! inputs.
+//! Times the proved library beside `plain` and `tuned`, in one process, on the
+//! same inputs.
 
 mod archive;
+mod bare_calls;
 mod circles;
 mod clock;
+mod every_call;
+mod goals;
 mod inputs;
+mod lines;
 mod programs;
 mod records;
 mod rounds;
@@ -15,15 +19,22 @@ use inputs::Input;
 use programs::{Call, CALLS};
 use rounds::{Rounds, LEAST_RUNS};
 use std::fs::read_to_string;
+use std::io;
 use std::process::ExitCode;
 use table::{Layout, Table};
 
 const USAGE: &str = "\
 bench [--markdown] [CALL...]
   --markdown   the table for docs/SPEED.md
-  CALL         draw, keep, read, replace, circles, tiles or records: times only these
+  CALL         draw, keep, read, replace, goals, circles, tiles or records: times only these
+bench lines [--markdown]
+                a sheet of 10,000 lines kept on one core and on two, by the clock on the wall
+bench sheet DIRECTORY
+                writes that sheet as an old archive
 bench archive DIRECTORY GRADE
                 the keep calls alone of every line of an old archive, on all cores";
+
+const MARKDOWN: &str = "--markdown";
 
 /// The name of what is timed of tiles.
 const TILES: &str = "tiles";
@@ -34,15 +45,26 @@ const RECORDS: &str = "records";
 /// The name of what is timed of circles at the finest grade.
 const CIRCLES: &str = "circles";
 
+/// The name of the table with the goals.
+const GOALS: &str = "goals";
+
+/// The word for many lines at once, and for their archive.
+const LINES: &str = "lines";
+const SHEET: &str = "sheet";
+
 /// The word for the keep calls of an archive.
 const ARCHIVE: &str = "archive";
 
-const GRADES: [u32; 3] = [1, 4, 8];
+const GRADES: [u32; 3] = [2, 4, 8];
 
 fn main() -> ExitCode {
     let words: Vec<String> = std::env::args().skip(1).collect();
-    if let [ARCHIVE, directory, grade] = words.iter().map(String::as_str).collect::<Vec<_>>()[..] {
-        return of_archive(directory, grade);
+    match words.iter().map(String::as_str).collect::<Vec<_>>()[..] {
+        [ARCHIVE, directory, grade] => return of_archive(directory, grade),
+        [SHEET, directory] => return ended(directory, lines::write_archive(directory.as_ref())),
+        [LINES] => return of_lines(Layout::Text),
+        [LINES, MARKDOWN] | [MARKDOWN, LINES] => return of_lines(Layout::Markdown),
+        _ => (),
     }
     let (flags, names): (Vec<&str>, Vec<&str>) = words
         .iter()
@@ -50,13 +72,14 @@ fn main() -> ExitCode {
         .partition(|word| word.starts_with('-'));
     let layout = match flags[..] {
         [] => Some(Layout::Text),
-        ["--markdown"] => Some(Layout::Markdown),
+        [MARKDOWN] => Some(Layout::Markdown),
         _ => None,
     };
     let all = names.is_empty();
     let (tiles, names): (Vec<&str>, Vec<&str>) = names.iter().partition(|&&name| name == TILES);
     let (records, names): (Vec<&str>, Vec<&str>) = names.iter().partition(|&&name| name == RECORDS);
     let (circles, names): (Vec<&str>, Vec<&str>) = names.iter().partition(|&&name| name == CIRCLES);
+    let (goals, names): (Vec<&str>, Vec<&str>) = names.iter().partition(|&&name| name == GOALS);
     let (Some(layout), Some(calls)) = (layout, calls(&names)) else {
         eprintln!("{USAGE}");
         return ExitCode::from(2);
@@ -70,6 +93,12 @@ fn main() -> ExitCode {
     if all || !names.is_empty() {
         print!("{}", timed(&calls).laid_out(layout));
         println!();
+    }
+    if all || !goals.is_empty() {
+        let tally = goals::Tally::default();
+        println!("{}\n", goals::CONDITIONS);
+        print!("{}", goals::timed(&tally).laid_out(layout));
+        println!("\n{tally}\n");
     }
     if all || !circles.is_empty() {
         print!("{}", circles::timed().laid_out(layout));
@@ -91,13 +120,25 @@ fn of_archive(directory: &str, grade: &str) -> ExitCode {
         eprintln!("{USAGE}");
         return ExitCode::from(2);
     };
-    match archive::timed(directory.as_ref(), grade) {
-        Ok(told) => {
-            println!("{told}");
-            ExitCode::SUCCESS
-        }
+    let told = archive::timed(directory.as_ref(), grade);
+    ended(directory, told.map(|told| println!("{told}")))
+}
+
+/// Times many lines at once.
+fn of_lines(layout: Layout) -> ExitCode {
+    let table = lines::timed();
+    ended(
+        LINES,
+        table.map(|table| print!("{}", table.laid_out(layout))),
+    )
+}
+
+/// How work on something ended, and what failed.
+fn ended(what: &str, result: io::Result<()>) -> ExitCode {
+    match result {
+        Ok(()) => ExitCode::SUCCESS,
         Err(error) => {
-            eprintln!("{directory}: {error}");
+            eprintln!("{what}: {error}");
             ExitCode::FAILURE
         }
     }

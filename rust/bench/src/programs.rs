@@ -78,7 +78,7 @@ impl Memory {
     pub fn new(input: &Input, grade: u32) -> Memory {
         let needed = |path: &[i32]| plain::calls::keep(path, grade, &mut []).number as usize;
         let bytes = needed(&input.path);
-        let mut store = vec![0; bytes.max(needed(&input.moved_path()))];
+        let mut store = vec![0; bytes.max(needed(&input.moved_path(input.middle())))];
         done(plain::calls::keep(&input.path, grade, &mut store));
         Memory {
             edges: vec![0; (bytes - sehmelir::outline_bytes(input.vertices(), 0)) / 4],
@@ -106,8 +106,9 @@ impl Program {
             Call::Keep => ((self.keep)(&input.path, grade, &mut memory.kept), 0),
             Call::Read => (self.read)(&memory.store, &mut memory.path),
             Call::Replace => {
-                self.replace(input, input.moved_vertex(), memory);
-                (self.replace(input, input.middle_vertex(), memory), 0)
+                let middle = input.middle();
+                self.replace(input, input.moved_vertex(middle), memory);
+                (self.replace(input, input.vertex(middle), memory), 0)
             }
         }
     }

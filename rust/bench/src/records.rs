@@ -6,7 +6,7 @@ use crate::table::Table;
 use sehmelir::{draw, draw_records, keep, keep_records, Refusal, Vertex};
 use std::hint::black_box;
 
-const GRADES: [u32; 3] = [1, 4, 8];
+const GRADES: [u32; 3] = [2, 4, 8];
 
 /// How many vertices a timing is of, at least: a short path is called again.
 const LEAST_VERTICES: usize = 4096;

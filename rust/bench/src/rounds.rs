@@ -58,7 +58,7 @@ impl Rounds<'_> {
     fn check(&mut self, call: Call) {
         let (input, grade) = (self.input, self.grade);
         if let Call::Replace = call {
-            let moved = input.moved_vertex();
+            let moved = input.moved_vertex(input.middle());
             let library = LIBRARY.replace(input, moved, &mut self.library);
             let plain = PLAIN.replace(input, moved, &mut self.plain);
             assert_eq!(library, plain);

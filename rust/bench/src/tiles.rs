@@ -63,7 +63,7 @@ impl Contents {
         let mut random = Random::new(8);
         let outline = |_: &u32| {
             let hedge = Input::hedge(random.between(2, 6) as usize);
-            sehmelir::outline(&hedge.path, 1).unwrap()
+            sehmelir::outline(&hedge.path, 2).unwrap()
         };
         let outlines = keys.iter().map(outline).collect();
         Contents {

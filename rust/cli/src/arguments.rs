@@ -4,18 +4,20 @@ use crate::destination::Destination;
 use crate::kerbs::Styling;
 use crate::migration::Migrating;
 use crate::reasons::Explaining;
+use crate::salvage::Salvaging;
 use crate::tile::TileCommand;
 use clap::{Args, Parser, Subcommand};
 use clap_complete::Shell;
+use std::ffi::OsString;
 use std::path::PathBuf;
 
 const AFTER_HELP: &str = "\
-A path text has a vertex a line, three whole numbers: x y radius. Blank lines count for nothing,
-and neither does what follows a #. x and y are -268435456 to 268435456, a radius is 0 to 268435456,
-a path has at most 4096 vertices. After a vertex that has a point number in its sheet, read prints
-that as a fourth. A kerb has one radius for the whole line, and its text has two numbers a line: x
-y. Bytes that follow a sheet are passed over. A file of the oldest chunks has 12 bytes a vertex: x,
-y and full width in millimetres, as little-endian 32-bit floats.
+A path text has a vertex a line, three whole numbers: x y radius; a vertex that has a point number,
+0 to 4294967295, has that as a fourth, and keep keeps it. Blank lines count for nothing, and neither
+does what follows a #. x and y are -268435456 to 268435456, a radius is 0 to 268435456, a path has
+at most 4096 vertices. A kerb has one radius for the whole line, and its text has two numbers a
+line: x y. Bytes that follow a sheet are passed over. A file of the oldest chunks has 12 bytes a
+vertex: x, y and full width in millimetres, as little-endian 32-bit floats; it has no point numbers.
 
 Input comes from standard input, or from the file that is named. The result goes to standard
 output, or with -o to a file, which is written whole or not at all. A tile that a command of tile
@@ -36,7 +38,7 @@ pub struct Arguments {
 /// What can be done.
 #[derive(Subcommand)]
 pub enum Command {
-    /// Keep a path as a sheet, its boundary drawn at a grade of 1 to 8
+    /// Keep a path as a sheet, its boundary drawn at a grade of 2 to 8
     Keep(Drawing),
     /// The path of a sheet, as text again
     Read(Reading),
@@ -48,12 +50,18 @@ pub enum Command {
     DrawKerb(Kerbing),
     /// A sheet with another vertex K; the first vertex is 0
     Replace(Replacing),
+    /// A sheet redrawn at another grade of 2 to 8, also one of grade 1; all else of it stays
+    Convert(Converting),
     /// Why an edge of a sheet is there, or each of them, a line an edge: edge reason vertex place, and exact or rounded for each end of a side
     Explain(Explaining),
     /// What differs between two sheets, and what cannot
     Changed(Comparing),
+    /// The bodies of a vertex in two sheets side by side, an edge a line, those that differ marked
+    Side(Siding),
     /// A sheet as a picture (SVG), or two, what differs in a second colour
     Picture(Showing),
+    /// A sound sheet from the header and vertices of a spoiled one; what differed is told on standard error
+    Salvage(Salvaging),
     /// The path of a file of the oldest chunks, as text
     Import(Importing),
     /// A path as a file of the oldest chunks
@@ -76,7 +84,7 @@ pub enum Command {
 /// none is refused in this command's own words.
 #[derive(Args)]
 pub struct Drawing {
-    /// How finely arcs are drawn: 1 to 8, 8 is the finest
+    /// How finely arcs are drawn: 2 to 8, 8 is the finest
     #[arg(allow_negative_numbers = true)]
     pub grade: String,
     /// The path text, if not on standard input
@@ -88,7 +96,7 @@ pub struct Drawing {
 /// What keep-kerb and draw-kerb take.
 #[derive(Args)]
 pub struct Kerbing {
-    /// How finely arcs are drawn: 1 to 8, 8 is the finest
+    /// How finely arcs are drawn: 2 to 8, 8 is the finest
     #[arg(allow_negative_numbers = true)]
     pub grade: String,
     #[command(flatten)]
@@ -129,6 +137,18 @@ pub struct Replacing {
     pub destination: Destination,
 }
 
+/// What convert takes.
+#[derive(Args)]
+pub struct Converting {
+    /// How finely arcs are drawn then: 2 to 8, 8 is the finest
+    #[arg(allow_negative_numbers = true)]
+    pub grade: String,
+    /// The sheet, if not on standard input
+    pub sheet: Option<PathBuf>,
+    #[command(flatten)]
+    pub destination: Destination,
+}
+
 /// What changed takes.
 #[derive(Args)]
 pub struct Comparing {
@@ -140,12 +160,26 @@ pub struct Comparing {
     pub destination: Destination,
 }
 
+/// What side takes.
+#[derive(Args)]
+pub struct Siding {
+    /// The sheet before
+    pub before: PathBuf,
+    /// The sheet after
+    pub after: PathBuf,
+    /// The number of the vertex, from 0 on; the closing body has the one after the last
+    #[arg(allow_negative_numbers = true)]
+    pub vertex: OsString,
+    #[command(flatten)]
+    pub destination: Destination,
+}
+
 /// What picture takes.
 #[derive(Args)]
 pub struct Showing {
-    /// The sheet, if not on standard input; or the sheet before
+    /// The sheet, if not on standard input; or the sheet before, or a spoiled one
     pub sheet: Option<PathBuf>,
-    /// The sheet after
+    /// The sheet after, or what the spoiled one is salvaged as
     pub after: Option<PathBuf>,
     /// Edges in colours, by why they are there
     #[arg(long, conflicts_with = "after")]

@@ -7,8 +7,9 @@ use crate::failure::Failure;
 use crate::memory::{lengthen, zeros};
 use crate::oldest::{not_exported, not_imported};
 use crate::progress;
+use crate::salvage::Salvaged;
 use crate::sheet::Header;
-use sehmelir::{Form, Kept, Refusal, Style};
+use sehmelir::{Difference, Form, Kept, Refusal, Style, Vertex};
 
 /// The most vertices that a path may have: what a read, an import and an export
 /// lend room for.
@@ -18,16 +19,24 @@ const MOST_VERTICES: usize = 4096;
 const CHANGED_BODIES: usize = 4;
 
 /// A path's boundary.
-pub fn draw(path: &[i32], grade: u32) -> Result<Vec<[i32; 4]>, Failure> {
-    let edges = likely_edges(path.len() / 3, grade);
+pub fn draw(path: &[Vertex], grade: u32) -> Result<Vec<[i32; 4]>, Failure> {
+    let edges = likely_edges(path.len(), grade);
     progress::during("drawing", || {
         with_room(edges, |room: &mut [[i32; 4]]| {
-            sehmelir::draw(path, grade, room.as_flattened_mut())
+            sehmelir::draw_records(path, grade, room.as_flattened_mut())
         })
     })
 }
 
-/// The sheet of a path.
+/// The sheet of a path with point numbers.
+pub fn keep_records(path: &[Vertex], grade: u32) -> Result<Vec<u8>, Failure> {
+    let bytes = likely_bytes(path.len(), grade);
+    progress::during("keeping", || {
+        with_room(bytes, |room| sehmelir::keep_records(path, grade, room))
+    })
+}
+
+/// The sheet of a path without point numbers.
 pub fn keep(path: &[i32], grade: u32) -> Result<Vec<u8>, Failure> {
     let bytes = likely_bytes(path.len() / 3, grade);
     progress::during("keeping", || {
@@ -88,28 +97,92 @@ pub fn numbers(sheet: &[u8]) -> Result<Vec<u32>, Failure> {
     })
 }
 
-/// The sheet with another vertex. The memory that it stands in is lent with
-/// some room after it, but only if it is as long as its header says: room must
-/// not make a sheet whole that was cut short.
-pub fn replace(
-    mut sheet: Vec<u8>,
-    index: usize,
-    [x, y, radius]: [i32; 3],
-) -> Result<Vec<u8>, Failure> {
-    let whole = Header::of(&sheet).filter(|header| header.length() <= sheet.len());
-    if let Some(Header { grade, .. }) = whole {
-        lengthen(&mut sheet, 16 * likely_edges(CHANGED_BODIES, grade))?;
-    }
+/// The sheet with another vertex.
+pub fn replace(sheet: Vec<u8>, index: usize, [x, y, radius]: [i32; 3]) -> Result<Vec<u8>, Failure> {
+    let grade = Header::of(&sheet).map_or(0, |header| header.grade);
+    let more = 16 * likely_edges(CHANGED_BODIES, grade);
     progress::during("replacing", || {
-        let mut replaced = sehmelir::replace(&mut sheet, index, x, y, radius);
-        if let Err(Refusal::NoRoom(needed)) = replaced {
-            let more = needed.saturating_sub(sheet.len());
-            lengthen(&mut sheet, more)?;
-            replaced = sehmelir::replace(&mut sheet, index, x, y, radius);
-        }
-        sheet.truncate(replaced?);
-        Ok(sheet)
+        in_place(sheet, more, |sheet| {
+            sehmelir::replace(sheet, index, x, y, radius)
+        })
     })
+}
+
+/// The sheet at another grade. Each finer one has about twice the edges.
+pub fn convert(sheet: Vec<u8>, grade: u32) -> Result<Vec<u8>, Failure> {
+    let more = match Header::of(&sheet) {
+        Some(header) if header.grade < grade => {
+            let finer = grade.min(8).saturating_sub(header.grade);
+            let edges = header.edges << finer;
+            16 * edges.min(likely_edges(header.vertices, grade))
+        }
+        _ => 0,
+    };
+    progress::during("converting", || {
+        in_place(sheet, more, |sheet| sehmelir::convert(sheet, grade))
+    })
+}
+
+/// What a call makes of a sheet in its place. The memory that it stands in is lent
+/// with so much room after it, and with as much as it needs where that is too
+/// little, but only if the sheet is as long as its header says: room must not make
+/// a sheet whole that was cut short.
+fn in_place(
+    mut sheet: Vec<u8>,
+    more: usize,
+    call: impl Fn(&mut [u8]) -> Result<usize, Refusal>,
+) -> Result<Vec<u8>, Failure> {
+    let whole = Header::of(&sheet).is_some_and(|header| header.length() <= sheet.len());
+    if whole {
+        lengthen(&mut sheet, more)?;
+    }
+    let mut made = call(&mut sheet);
+    if let Err(Refusal::NoRoom(needed)) = made {
+        let more = needed.saturating_sub(sheet.len());
+        lengthen(&mut sheet, more)?;
+        made = call(&mut sheet);
+    }
+    sheet.truncate(made?);
+    Ok(sheet)
+}
+
+/// The body of a vertex in one of two sheets, as a part of it.
+pub fn side<'a>(
+    before: &'a [u8],
+    after: &'a [u8],
+    which: sehmelir::Sheet,
+    vertex: usize,
+) -> Result<&'a [u8], Failure> {
+    let part = progress::during("comparing", || sehmelir::side(before, after, which, vertex));
+    part.map_err(|refusal| match refusal {
+        Refusal::OtherKind(kind) => Failure::NoBodies(kind),
+        Refusal::NoVertex(vertex) => Failure::NoBody(vertex),
+        other => Failure::Refused(other),
+    })
+}
+
+/// What is salvaged from a spoiled sheet. Its list has an entry for each vertex, the
+/// closing body and the total at most.
+pub fn salvage(spoiled: &[u8]) -> Result<Salvaged, Failure> {
+    // a header may say anything
+    let bytes = Header::of(spoiled).map_or(0, |header| {
+        likely_bytes(header.vertices.min(MOST_VERTICES), header.grade)
+    });
+    let mut list: Vec<[u32; 2]> = zeros(MOST_VERTICES + 2)?;
+    let mut entries = 0;
+    let sheet = progress::during("salvaging", || {
+        with_room(bytes, |room| {
+            let salvaged = sehmelir::salvage(spoiled, room, list.as_flattened_mut())?;
+            entries = salvaged.entries;
+            Ok(salvaged.bytes)
+        })
+    })?;
+    let vertices = Header::of(&sheet).map_or(0, |header| header.vertices);
+    let differences = list[..entries].iter().map(|&entry| {
+        Difference::of(entry, vertices).expect("the library lists the differences that it has")
+    });
+    let differences = differences.collect();
+    Ok(Salvaged { sheet, differences })
 }
 
 /// Why each edge of a sheet is there: the number of its reason, its vertex, its
@@ -141,8 +214,8 @@ pub fn export(path: &[i32]) -> Result<Vec<[f32; 3]>, Failure> {
     vertices.map_err(|failure| not_exported(failure, path))
 }
 
-/// So many edges hold the boundary of most paths: sixteen a vertex at the
-/// first grade, and twice as many at each finer one.
+/// So many edges hold the boundary of most paths: sixteen a vertex at grade 1,
+/// and twice as many at each finer one.
 fn likely_edges(vertices: usize, grade: u32) -> usize {
     vertices.min(MOST_VERTICES) * (8 << grade.min(8))
 }
@@ -171,9 +244,9 @@ fn with_room<T: Clone + Default>(
 
 #[cfg(test)]
 mod tests {
-    use super::{keep, keep_kerb, numbers, read, replace, with_room, Read};
+    use super::{convert, keep, keep_kerb, keep_records, numbers, read, replace, with_room, Read};
     use crate::failure::Failure;
-    use sehmelir::{Form, Join, Refusal, Style};
+    use sehmelir::{Form, Join, Refusal, Style, Vertex};
 
     #[test]
     fn a_guess_that_is_too_short_changes_nothing() {
@@ -205,13 +278,32 @@ mod tests {
     }
 
     #[test]
-    fn a_replaced_vertex_keeps_its_number() {
-        let mut sheet = keep(&[0, 0, 5, 20, 0, 5], 8).unwrap();
-        assert_eq!(numbers(&sheet).unwrap(), [0, 0]);
-        for (place, number) in [(32, 411), (52, u32::MAX)] {
-            sheet[place..place + 4].copy_from_slice(&number.to_le_bytes());
+    fn a_sheet_is_converted_to_any_grade() {
+        let hedge = [0, 0, 500, 2000, 0, 300, 4000, 900, 450];
+        let style = Style {
+            radius: 50,
+            join: Join::Round,
+            closed: true,
+        };
+        for (from, to) in (2..=8).flat_map(|from| (2..=8).map(move |to| (from, to))) {
+            let converted = convert(keep(&hedge, from).unwrap(), to).unwrap();
+            assert_eq!(converted, keep(&hedge, to).unwrap());
+            let kerb = keep_kerb(&hedge[..8], from, style).unwrap();
+            let converted = convert(kerb, to).unwrap();
+            assert_eq!(converted, keep_kerb(&hedge[..8], to, style).unwrap());
         }
-        let replaced = replace(sheet, 1, [20, 7, 90]).unwrap();
+        let refused = convert(keep(&hedge, 4).unwrap(), 1);
+        assert!(matches!(refused, Err(Failure::Refused(Refusal::Grade(1)))));
+    }
+
+    #[test]
+    fn a_replaced_vertex_keeps_its_number() {
+        let sheet = keep(&[0, 0, 5, 20, 0, 5], 8).unwrap();
+        assert_eq!(numbers(&sheet).unwrap(), [0, 0]);
+        let mut path = [[0, 0, 5], [20, 0, 5]].map(Vertex::from);
+        assert_eq!(keep_records(&path, 8).unwrap(), sheet);
+        (path[0].number, path[1].number) = (411, u32::MAX);
+        let replaced = replace(keep_records(&path, 8).unwrap(), 1, [20, 7, 90]).unwrap();
         assert_eq!(numbers(&replaced).unwrap(), [411, u32::MAX]);
     }
 
@@ -223,16 +315,18 @@ mod tests {
             closed: false,
         };
         let sheets = [
-            keep(&[0, 0, 10], 1).unwrap(),
-            keep_kerb(&[0, 0, 9, 9], 1, style).unwrap(),
+            keep(&[0, 0, 10], 2).unwrap(),
+            keep_kerb(&[0, 0, 9, 9], 2, style).unwrap(),
         ];
         for mut sheet in sheets {
             sheet.pop();
-            let refused = replace(sheet, 0, [0, 0, 0]);
-            assert!(matches!(
-                refused,
-                Err(Failure::Refused(Refusal::NotOutline))
-            ));
+            let refused = [replace(sheet.clone(), 0, [0, 0, 0]), convert(sheet, 2)];
+            for refused in refused {
+                assert!(matches!(
+                    refused,
+                    Err(Failure::Refused(Refusal::NotOutline))
+                ));
+            }
         }
     }
 }

@@ -1,8 +1,10 @@
 //! What differs between two sheets of one kind and edition with as many vertices.
 
+use crate::calls;
 use crate::failure::Failure;
 use crate::sheet::Sheet;
 use sehmelir::Form;
+use sehmelir::Sheet::{After, Before};
 use std::iter::zip;
 
 /// One mark a vertex, one a point number and one a body, in the sheets' order:
@@ -29,19 +31,34 @@ impl Changes {
         if old.len() != new.len() {
             return Err(Failure::Unlike(old.len(), new.len()));
         }
-        let vertices = zip(old, new).map(|(old, new)| old != new).collect();
+        let vertices: Vec<bool> = zip(old, new).map(|(old, new)| old != new).collect();
         let numbers = zip(before.numbers()?, after.numbers()?)
             .map(|(old, new)| old != new)
             .collect();
-        let bodies = zip(before.bodies(), after.bodies())
+        let mut bodies: Vec<bool> = zip(before.bodies(), after.bodies())
             .map(|(old, new)| before.edge_bytes(old.clone()) != after.edge_bytes(new.clone()))
             .collect();
+        if !kerbs[0] && before.grade() == after.grade() && count(&vertices, true) == 1 {
+            ask(before, after, &mut bodies)?;
+        }
         Ok(Changes {
             vertices,
             numbers,
             bodies,
         })
     }
+}
+
+/// Each body that is marked, as the library hands it over of either sheet. That
+/// checks both sheets whole, so it is asked where one vertex alone differs: there
+/// few bodies do, and of them something is promised.
+fn ask(before: &Sheet, after: &Sheet, bodies: &mut [bool]) -> Result<(), Failure> {
+    let (before, after) = (before.bytes(), after.bytes());
+    for (vertex, mark) in bodies.iter_mut().enumerate().filter(|(_, mark)| **mark) {
+        let old = calls::side(before, after, Before, vertex)?;
+        *mark = old != calls::side(before, after, After, vertex)?;
+    }
+    Ok(())
 }
 
 /// The first place that is marked, of those from one on.
@@ -71,8 +88,8 @@ mod tests {
 
     #[test]
     fn a_moved_vertex_changes_its_bodies() {
-        let before = sheet(&[[0, 0, 5], [20, 0, 5], [40, 0, 5], [60, 0, 5]], 1);
-        let after = sheet(&[[0, 9, 5], [20, 0, 5], [40, 0, 5], [60, 0, 5]], 1);
+        let before = sheet(&[[0, 0, 5], [20, 0, 5], [40, 0, 5], [60, 0, 5]], 2);
+        let after = sheet(&[[0, 9, 5], [20, 0, 5], [40, 0, 5], [60, 0, 5]], 2);
         let changes = Changes::between(&before, &after).unwrap();
         assert_eq!(changes.vertices, [true, false, false, false]);
         assert_eq!(changes.numbers, [false; 4]);
@@ -81,7 +98,7 @@ mod tests {
 
     #[test]
     fn sheets_with_other_numbers_of_vertices_are_unlike() {
-        let (none, one) = (sheet(&[], 1), sheet(&[[0, 0, 5]], 1));
+        let (none, one) = (sheet(&[], 2), sheet(&[[0, 0, 5]], 2));
         let unlike = Changes::between(&none, &one);
         assert!(matches!(unlike, Err(Failure::Unlike(0, 1))));
     }

@@ -1,8 +1,8 @@
 //! What each command does.
 
 use crate::arguments::{
-    Arguments, Command, Comparing, Drawing, Exporting, Importing, Kerbing, Reading, Replacing,
-    Showing,
+    Arguments, Command, Comparing, Converting, Drawing, Exporting, Importing, Kerbing, Reading,
+    Replacing, Showing,
 };
 use crate::calls;
 use crate::changes::Changes;
@@ -12,11 +12,13 @@ use crate::failure::Failure;
 use crate::kerbs;
 use crate::migration;
 use crate::oldest;
-use crate::path_text::{numbered_rows, numbers, pairs, rows};
+use crate::path_text::{numbered_rows, numbers, pairs, path, rows};
 use crate::picture;
 use crate::reasons;
 use crate::report;
-use crate::sheet::Sheet;
+use crate::salvage;
+use crate::sheet::{sheet_of, Sheet};
+use crate::sides;
 use crate::source::Source;
 use crate::tile;
 use crate::words::whole;
@@ -34,9 +36,12 @@ pub fn run(command: Command) -> Result<(), Failure> {
         Command::KeepKerb(asked) => keep_kerb(asked),
         Command::DrawKerb(asked) => draw_kerb(asked),
         Command::Replace(asked) => replace(asked),
+        Command::Convert(asked) => convert(asked),
         Command::Explain(asked) => reasons::run(asked),
         Command::Changed(asked) => compare(asked),
+        Command::Side(asked) => sides::run(asked),
         Command::Picture(asked) => show(asked),
+        Command::Salvage(asked) => salvage::run(asked),
         Command::Import(asked) => import(asked),
         Command::Export(asked) => export(asked),
         Command::Tile(asked) => tile::run(asked),
@@ -49,7 +54,7 @@ pub fn run(command: Command) -> Result<(), Failure> {
 /// A path as a sheet.
 fn keep(asked: Drawing) -> Result<(), Failure> {
     let grade = grade_of(&asked.grade)?;
-    let keep = |text: Vec<u8>| calls::keep(&numbers(&text)?, grade);
+    let keep = |text: Vec<u8>| calls::keep_records(&path(&text)?, grade);
     let sheet = Source::named(asked.path).take(keep)?;
     asked.destination.write(&sheet)
 }
@@ -91,7 +96,7 @@ fn draw_kerb(asked: Kerbing) -> Result<(), Failure> {
 /// A path's boundary as text.
 fn draw(asked: Drawing) -> Result<(), Failure> {
     let grade = grade_of(&asked.grade)?;
-    let draw = |text: Vec<u8>| calls::draw(&numbers(&text)?, grade);
+    let draw = |text: Vec<u8>| calls::draw(&path(&text)?, grade);
     let edges = Source::named(asked.path).take(draw)?;
     asked.destination.write(&rows(&edges))
 }
@@ -101,6 +106,14 @@ fn replace(asked: Replacing) -> Result<(), Failure> {
     let (index, vertex) = vertex_of(&asked.index, [&asked.x, &asked.y, &asked.radius])?;
     let replace = |sheet| calls::replace(sheet, index, vertex);
     let sheet = Source::named(asked.sheet).take(replace)?;
+    asked.destination.write(&sheet)
+}
+
+/// A sheet at another grade.
+fn convert(asked: Converting) -> Result<(), Failure> {
+    let grade = grade_of(&asked.grade)?;
+    let convert = |sheet| calls::convert(sheet, grade);
+    let sheet = Source::named(asked.sheet).take(convert)?;
     asked.destination.write(&sheet)
 }
 
@@ -118,12 +131,34 @@ fn show(asked: Showing) -> Result<(), Failure> {
         (None, false) => picture::of_one(&sheet_of(asked.sheet)?),
         (None, true) => Source::named(asked.sheet).take(with_reasons)?,
         (Some(after), _) => {
-            let (before, after) = (sheet_of(asked.sheet)?, sheet_of(Some(after))?);
-            let changes = Changes::between(&before, &after)?;
+            let (before, after, changes) = two_of(asked.sheet, after)?;
             picture::of_two(&before, &after, &changes)
         }
     };
     asked.destination.write(picture.as_bytes())
+}
+
+/// Two sheets and what differs: both of them sound, or the first spoiled and the
+/// second what it is salvaged as.
+fn two_of(before: Option<PathBuf>, after: PathBuf) -> Result<(Sheet, Sheet, Changes), Failure> {
+    let mut spoiled = None;
+    let sound = Source::named(before).take(|bytes| Sheet::sound_or(bytes, &mut spoiled));
+    let after = || sheet_of(Some(after));
+    match (sound, spoiled) {
+        (Ok(before), _) => {
+            let after = after()?;
+            let changes = Changes::between(&before, &after)?;
+            Ok((before, after, changes))
+        }
+        (Err(failure), Some(spoiled)) => {
+            let Ok(after) = after() else {
+                return Err(failure);
+            };
+            let (before, changes) = salvage::beside(spoiled, &after).ok_or(failure)?;
+            Ok((before, after, changes))
+        }
+        (Err(failure), None) => Err(failure),
+    }
 }
 
 /// The picture of a sheet with its edges in colours.
@@ -140,16 +175,11 @@ fn import(asked: Importing) -> Result<(), Failure> {
     asked.destination.write(&rows(&path))
 }
 
-/// A path as a file of the oldest chunks.
+/// A path as a file of the oldest chunks, which have no point numbers.
 fn export(asked: Exporting) -> Result<(), Failure> {
     let export = |text: Vec<u8>| calls::export(&numbers(&text)?);
     let vertices = Source::named(asked.path).take(export)?;
     asked.destination.write(&oldest::bytes(&vertices))
-}
-
-/// A sound sheet from a file or from standard input.
-fn sheet_of(file: Option<PathBuf>) -> Result<Sheet, Failure> {
-    Source::named(file).take(Sheet::sound)
 }
 
 /// A shell's completions, on standard output.
@@ -159,9 +189,9 @@ fn complete(shell: Shell) -> Result<(), Failure> {
     Destination::standard().write(&script)
 }
 
-/// A number that may be a grade. That grades are 1 to 8 is the library's test.
+/// A number that may be a grade. That grades are 2 to 8 is the library's test.
 fn grade_of(word: &str) -> Result<u32, Failure> {
-    let due = Failure::Words("GRADE is a whole number, 1 to 8");
+    let due = Failure::Words("GRADE is a whole number, 2 to 8");
     whole(word.as_bytes()).ok_or(due)
 }
 

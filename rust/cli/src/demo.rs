@@ -5,7 +5,7 @@ use crate::calls;
 use crate::changes::Changes;
 use crate::destination::Destination;
 use crate::failure::Failure;
-use crate::path_text::numbers;
+use crate::path_text::path;
 use crate::picture;
 use crate::report;
 use crate::sheet::Sheet;
@@ -23,7 +23,7 @@ const PICTURE: &str = "hedge.svg";
 /// Writes the picture here, and what changed to standard output.
 pub fn run() -> Result<(), Failure> {
     let (index, vertex) = gate_post().ok_or(Failure::Words("demo/gate-post.txt is no vertex"))?;
-    let hedge = calls::keep(&numbers(HEDGE)?, GRADE)?;
+    let hedge = calls::keep_records(&path(HEDGE)?, GRADE)?;
     let before = Sheet::sound(hedge.clone())?;
     let after = Sheet::sound(calls::replace(hedge, index, vertex)?)?;
     let told = report::of(&before, &after)?;

@@ -29,6 +29,10 @@ pub enum Failure {
     UnlikeForms,
     /// The sheets to be compared are of this edition and of this other.
     UnlikeEditions(u32, u32),
+    /// Of the sheets laid side by side one is of a kerb, of this kind.
+    NoBodies(u32),
+    /// The sheet that is asked for a body of this number has none.
+    NoBody(usize),
     /// The tile has no room for a sheet of so many bytes.
     NoTileRoom(usize),
     /// The file to be made is there already.
@@ -102,7 +106,8 @@ impl Display for Failure {
             Failure::Words(due) => write!(formatter, "refused: {due}"),
             Failure::Line(number) => write!(
                 formatter,
-                "refused: line {number} is not a vertex: three whole numbers of 32 bits are due, x y radius"
+                "refused: line {number} is not a vertex: three whole numbers of 32 bits are due, x y radius, \
+                 and a fourth, from 0 on, if it has a point number"
             ),
             Failure::PairLine(number) => write!(
                 formatter,
@@ -137,6 +142,16 @@ impl Display for Failure {
                 "refused: the first sheet is of edition {first} and the second of edition {second}; \
                  only sheets of one edition are held against each other \
                  (read and keep again make edition 2 of a sheet of edition 1)"
+            ),
+            Failure::NoBodies(kind) => write!(
+                formatter,
+                "refused with reply 12: one of the sheets is of a kerb, which has no body for each vertex; \
+                 its kind is {kind}"
+            ),
+            Failure::NoBody(vertex) => write!(
+                formatter,
+                "refused with reply 9: the number is above the number of vertices; it is {vertex} \
+                 (bodies are counted from 0, and the closing one comes after the last vertex's)"
             ),
             Failure::NoTileRoom(bytes) => write!(
                 formatter,
@@ -249,7 +264,10 @@ fn meaning(refusal: &Refusal) -> String {
             format!("the numbers lent are not a multiple of three, or of two; there are {count}")
         }
         Refusal::TooMany(count) => format!("above 4096 vertices; there are {count}"),
-        Refusal::Grade(grade) => format!("the grade is not 1 to 8; it is {grade}"),
+        Refusal::Grade(1) => "grade 1 is retired: nothing is drawn, kept or replaced at it any more, \
+                              and sheets of grade 1 are read, or converted to another; the grade is 1"
+            .to_string(),
+        Refusal::Grade(grade) => format!("the grade is not 2 to 8; it is {grade}"),
         Refusal::Outside(index) => format!(
             "a vertex is outside the limits; the first such vertex is number {index}, counted from 0 \
              (x and y are -268435456 to 268435456, a radius is 0 to 268435456)"
@@ -281,8 +299,8 @@ fn meaning(refusal: &Refusal) -> String {
             format!("{due}; it is word {place} of the header, counted from 0")
         }
         Refusal::OtherKind(kind) => format!(
-            "the sheet is of a kerb, whose vertices are not replaced and whose edges are not explained; \
-             its kind is {kind}"
+            "the sheet is of a kerb, whose vertices are not replaced and whose edges are not explained, \
+             and which is not salvaged; its kind is {kind}"
         ),
         Refusal::NotTaken(place) => {
             format!("a number is not taken; the first such is at place {place}, counted from 0")
@@ -300,6 +318,9 @@ fn meaning(refusal: &Refusal) -> String {
             "the path has no edges, so that nothing would be drawn; its vertices are {count} \
              (a radius of 0 or 1 draws nothing, and neither does a kerb whose points are all one)"
         ),
+        Refusal::NoListRoom(entries) => {
+            format!("the list is longer than the room lent; its entries are {entries}")
+        }
         // one that the library has and this command does not know yet
         other => other.to_string(),
     }

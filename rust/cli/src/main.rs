@@ -1,5 +1,5 @@
-//! `sehmelir`: paths and kerbs kept as sheets, read, drawn, changed, explained,
-//! compared and shown, paths taken from and to the oldest chunks, sheets stored in tiles, and
+//! `sehmelir`: paths and kerbs kept as sheets, read, drawn, changed, converted, explained,
+//! compared, laid side by side, salvaged and shown, paths taken from and to the oldest chunks, sheets stored in tiles, and
 //! archives of old chunks migrated.
 //! What rests on a proof comes from the library, `rust/sehmelir`; what is here
 //! is text, files, pictures and words.
@@ -21,8 +21,10 @@ mod progress;
 mod ranges;
 mod reasons;
 mod report;
+mod salvage;
 mod sentence;
 mod sheet;
+mod sides;
 mod source;
 mod stack;
 mod tile;

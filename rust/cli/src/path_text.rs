@@ -1,40 +1,67 @@
-//! A path as text: a vertex a line, x y radius; or a kerb, x y. Blank lines
-//! count for nothing, and neither does what follows a `#` on a line.
+//! A path as text: a vertex a line, x y radius, and after it the point number
+//! that it has, if any; or a kerb, x y. Blank lines count for nothing, and neither
+//! does what follows a `#` on a line.
 
 use crate::failure::Failure;
 use crate::words::whole;
+use sehmelir::Vertex;
 
-/// The numbers of a path text, three a vertex.
+/// The vertices of a path text, or the first line that is none.
+pub fn path(text: &[u8]) -> Result<Vec<Vertex>, Failure> {
+    let vertices = lines(text).map(|(line, words)| vertex(&words).ok_or(Failure::Line(line)));
+    vertices.collect()
+}
+
+/// The numbers of a path text without point numbers, three a vertex.
 pub fn numbers(text: &[u8]) -> Result<Vec<i32>, Failure> {
-    lines(text, 3).map_err(Failure::Line)
+    let vertices = path(text)?.into_iter();
+    Ok(vertices.flat_map(<[i32; 3]>::from).collect())
 }
 
-/// The numbers of a kerb's text, two a vertex.
-pub fn pairs(text: &[u8]) -> Result<Vec<i32>, Failure> {
-    lines(text, 2).map_err(Failure::PairLine)
-}
-
-/// The numbers of a text, so many a line, or the first line that has not as
+/// The numbers of a kerb's text, two a vertex, or the first line that has not as
 /// many.
-fn lines(text: &[u8], each: usize) -> Result<Vec<i32>, usize> {
-    let mut numbers = Vec::new();
-    for (place, line) in text.split(|&byte| byte == b'\n').enumerate() {
-        let content = line.split(|&byte| byte == b'#').next().unwrap_or(line);
-        let before = numbers.len();
-        for word in words(content) {
-            numbers.push(whole(word).ok_or(place + 1)?);
-        }
-        if ![0, each].contains(&(numbers.len() - before)) {
-            return Err(place + 1);
-        }
-    }
-    Ok(numbers)
+pub fn pairs(text: &[u8]) -> Result<Vec<i32>, Failure> {
+    let pairs = lines(text).map(|(line, words)| pair(&words).ok_or(Failure::PairLine(line)));
+    Ok(pairs.collect::<Result<Vec<[i32; 2]>, _>>()?.concat())
 }
 
-/// The words of a line: tabs and carriage returns count as spaces.
-fn words(line: &[u8]) -> impl Iterator<Item = &[u8]> {
-    line.split(|byte| b" \t\r".contains(byte))
+/// The vertex of a line's words: three numbers, and a fourth if it has a point
+/// number.
+fn vertex(words: &[&[u8]]) -> Option<Vertex> {
+    let (&[x, y, radius], number) = words.split_first_chunk()?;
+    Some(Vertex {
+        x: whole(x)?,
+        y: whole(y)?,
+        radius: whole(radius)?,
+        number: match number {
+            [] => 0,
+            [number] => whole(number)?,
+            _ => return None,
+        },
+    })
+}
+
+/// The point of a line's words.
+fn pair(words: &[&[u8]]) -> Option<[i32; 2]> {
+    let &[x, y] = words else {
+        return None;
+    };
+    Some([whole(x)?, whole(y)?])
+}
+
+/// The lines of a text that have words, with their numbers, from 1 on.
+fn lines(text: &[u8]) -> impl Iterator<Item = (usize, Vec<&[u8]>)> {
+    let lines = text.split(|&byte| byte == b'\n').map(words);
+    (1..).zip(lines).filter(|(_, words)| !words.is_empty())
+}
+
+/// The words of a line before a `#`: tabs and carriage returns count as spaces.
+fn words(line: &[u8]) -> Vec<&[u8]> {
+    let comment = line.iter().position(|&byte| byte == b'#');
+    line[..comment.unwrap_or(line.len())]
+        .split(|byte| b" \t\r".contains(byte))
         .filter(|word| !word.is_empty())
+        .collect()
 }
 
 /// Rows of numbers, one a line: a path's vertices, or edges.
@@ -90,7 +117,7 @@ pub fn push_digits(text: &mut Vec<u8>, mut rest: u32) {
 
 #[cfg(test)]
 mod tests {
-    use super::{numbered_rows, numbers, pairs, rows};
+    use super::{numbered_rows, numbers, pairs, path, rows};
     use crate::failure::Failure;
 
     #[test]
@@ -107,6 +134,19 @@ mod tests {
         let path = [[0, 0, 5], [-3, 4, 7], [1, 2, 3]];
         let text = numbered_rows(&path, &[411, 0, 4_294_967_295]);
         assert_eq!(text, b"0 0 5 411\n-3 4 7\n1 2 3 4294967295\n");
+    }
+
+    #[test]
+    fn a_point_number_may_follow() {
+        let text = b"0 0 5 411\n-3 4 7\n1 2 3 4294967295 # last\n0 0 1 0\n";
+        let read = path(text).unwrap();
+        let told: Vec<u32> = read.iter().map(|vertex| vertex.number).collect();
+        assert_eq!(told, [411, 0, u32::MAX, 0]);
+        let path: Vec<[i32; 3]> = read.into_iter().map(<[i32; 3]>::from).collect();
+        assert_eq!(path, [[0, 0, 5], [-3, 4, 7], [1, 2, 3], [0, 0, 1]]);
+        assert_eq!(numbers(text).unwrap(), path.as_flattened());
+        let due = b"0 0 5 411\n-3 4 7\n1 2 3 4294967295\n0 0 1\n";
+        assert_eq!(numbered_rows(&path, &told), due);
     }
 
     #[test]
@@ -133,7 +173,9 @@ mod tests {
     fn the_first_line_that_is_no_vertex_is_told() {
         for (text, due) in [
             (&b"1 2"[..], 1),
-            (b"1 2 3 4", 1),
+            (b"1 2 3 4 5", 1),
+            (b"1 2 3 -4", 1),
+            (b"1 2 3\n1 2 3 4294967296", 2),
             (b"1 2 3\n4 5 x\n6", 2),
             (b"\n\n1 2 # 3", 3),
             (b"1 2 2147483648", 1),

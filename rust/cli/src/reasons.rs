@@ -117,22 +117,22 @@ mod tests {
 
     #[test]
     fn a_line_an_edge() {
-        let sheet = calls::keep(&[0, 0, 5, 20, 0, 5], 1).unwrap();
+        let sheet = calls::keep(&[0, 0, 5, 20, 0, 5], 2).unwrap();
         let text = String::from_utf8(all(&sheet).unwrap()).unwrap();
         assert!(text.starts_with(
             "0 left-side 1 0 exact exact\n1 right-side 1 0 exact exact\n2 start-cap 1 0\n"
         ));
-        assert!(text.ends_with("\n8 end-cap 2 2\n9 end-cap 2 3\n"));
-        let lines = (0..10).map(|edge| one(&sheet, edge).unwrap());
+        assert!(text.ends_with("\n14 end-cap 2 5\n15 end-cap 2 6\n"));
+        let lines = (0..16).map(|edge| one(&sheet, edge).unwrap());
         assert_eq!(lines.collect::<Vec<_>>().concat(), text.as_bytes());
         let reasons = of_edges(&sheet).unwrap();
-        assert_eq!(reasons[5..7], [Reason::StartCap, Reason::EndCap]);
+        assert_eq!(reasons[8..10], [Reason::StartCap, Reason::EndCap]);
     }
 
     /// The left side runs to a, the right one from it.
     #[test]
     fn a_side_tells_its_ends_as_it_runs() {
-        let sheet = calls::keep(&[0, 0, 5, 7, 2, 0], 1).unwrap();
+        let sheet = calls::keep(&[0, 0, 5, 7, 2, 0], 2).unwrap();
         let text = String::from_utf8(all(&sheet).unwrap()).unwrap();
         assert!(text.starts_with(
             "0 left-side 1 0 exact rounded\n1 right-side 1 0 rounded exact\n2 start-cap 1 0\n"
@@ -141,11 +141,11 @@ mod tests {
 
     #[test]
     fn refusals_come_through() {
-        let sheet = calls::keep(&[0, 0, 5, 20, 0, 5], 1).unwrap();
-        let refused = one(&sheet, 10);
+        let sheet = calls::keep(&[0, 0, 5, 20, 0, 5], 2).unwrap();
+        let refused = one(&sheet, 16);
         assert!(matches!(
             refused,
-            Err(Failure::Refused(Refusal::NoEdge(10)))
+            Err(Failure::Refused(Refusal::NoEdge(16)))
         ));
         let refused = all(&sheet[1..]);
         assert!(matches!(

@@ -100,7 +100,7 @@ fn bodies(marks: &[bool]) -> String {
 }
 
 /// The bodies whose marks are as wanted, the closing one by its name.
-fn some_bodies(marks: &[bool], wanted: bool, one: &str, many: &str) -> String {
+pub fn some_bodies(marks: &[bool], wanted: bool, one: &str, many: &str) -> String {
     let (closing, others) = match marks {
         [others @ .., closing] => (*closing == wanted, others),
         [] => (false, marks),

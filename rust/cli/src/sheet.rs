@@ -2,8 +2,10 @@
 
 use crate::calls::{self, Read};
 use crate::failure::Failure;
+use crate::source::Source;
 use sehmelir::Form;
 use std::ops::Range;
+use std::path::PathBuf;
 
 /// Words of an edge.
 const ROW: usize = 4;
@@ -52,7 +54,8 @@ impl Layout {
     }
 }
 
-/// A sheet that the library found sound.
+/// A sheet that the library found sound, or a spoiled one beside the sound one that
+/// it is salvaged as.
 pub struct Sheet {
     bytes: Vec<u8>,
     layout: Layout,
@@ -60,16 +63,56 @@ pub struct Sheet {
     form: Form,
     vertices: Vec<[i32; 3]>,
     bodies: Vec<Range<usize>>,
+    is_sound: bool,
 }
 
 impl Sheet {
     /// The sheet of these bytes, if they are sound.
     pub fn sound(bytes: Vec<u8>) -> Result<Sheet, Failure> {
+        Sheet::sound_or(bytes, &mut None)
+    }
+
+    /// The sheet of these bytes, if they are sound; if not, the bytes are left there.
+    pub fn sound_or(bytes: Vec<u8>, left: &mut Option<Vec<u8>>) -> Result<Sheet, Failure> {
+        match calls::read(&bytes) {
+            Ok(read) => Ok(Sheet::of(bytes, read)),
+            Err(failure) => {
+                *left = Some(bytes);
+                Err(failure)
+            }
+        }
+    }
+
+    /// A spoiled sheet of a path beside the sound one that it is salvaged as: its own
+    /// bodies by its own counts, as far as its bytes go.
+    pub fn spoiled(bytes: Vec<u8>, sound: &Sheet) -> Sheet {
+        let (layout, vertices) = (
+            Layout::of(&bytes).unwrap_or(Layout::STROKE),
+            &sound.vertices,
+        );
+        let front = 4 * layout.front(vertices.len());
+        let edges = bytes.len().saturating_sub(front) / (4 * ROW);
+        let bodies = bodies(&bytes, sound.form, &layout, vertices.len()).into_iter();
+        Sheet {
+            bodies: bodies
+                .map(|body| body.start.min(edges)..body.end.min(edges))
+                .collect(),
+            bytes,
+            layout,
+            grade: sound.grade,
+            form: sound.form,
+            vertices: vertices.clone(),
+            is_sound: false,
+        }
+    }
+
+    /// The sheet of these bytes, which were read.
+    fn of(bytes: Vec<u8>, read: Read) -> Sheet {
         let Read {
             numbers,
             grade,
             form,
-        } = calls::read(&bytes)?;
+        } = read;
         let vertices = match form {
             Form::Stroke => numbers.as_chunks::<3>().0.to_vec(),
             Form::Kerb(_) => {
@@ -79,14 +122,20 @@ impl Sheet {
         };
         let layout = Layout::of(&bytes).unwrap_or(Layout::STROKE);
         let bodies = bodies(&bytes, form, &layout, vertices.len());
-        Ok(Sheet {
+        Sheet {
             bytes,
             layout,
             grade,
             form,
             vertices,
             bodies,
-        })
+            is_sound: true,
+        }
+    }
+
+    /// Whether it is sound. The edges of a spoiled one may be anywhere.
+    pub fn is_sound(&self) -> bool {
+        self.is_sound
     }
 
     /// The bytes, and what may stand after the sheet.
@@ -137,11 +186,7 @@ impl Sheet {
 
     /// x and y of the start, then of the end, of each of these edges.
     pub fn edges(&self, numbers: Range<usize>) -> impl Iterator<Item = [i32; 4]> + '_ {
-        let (rows, _) = self.edge_bytes(numbers).as_chunks::<16>();
-        rows.iter().map(|row| {
-            let (words, _) = row.as_chunks::<4>();
-            [words[0], words[1], words[2], words[3]].map(i32::from_le_bytes)
-        })
+        edges_of(self.edge_bytes(numbers))
     }
 
     /// The bytes of these edges.
@@ -151,7 +196,21 @@ impl Sheet {
     }
 }
 
-/// The bodies of a sound sheet of so many vertices.
+/// A sound sheet from a file or from standard input.
+pub fn sheet_of(file: Option<PathBuf>) -> Result<Sheet, Failure> {
+    Source::named(file).take(Sheet::sound)
+}
+
+/// x and y of the start, then of the end, of each edge whose bytes these are.
+pub fn edges_of(bytes: &[u8]) -> impl Iterator<Item = [i32; 4]> + '_ {
+    let (rows, _) = bytes.as_chunks::<16>();
+    rows.iter().map(|row| {
+        let (words, _) = row.as_chunks::<4>();
+        [words[0], words[1], words[2], words[3]].map(i32::from_le_bytes)
+    })
+}
+
+/// The bodies of a sheet of so many vertices, by its counts.
 fn bodies(bytes: &[u8], form: Form, layout: &Layout, vertices: usize) -> Vec<Range<usize>> {
     let front = layout.front(vertices);
     let last = front - layout.counts..front;
@@ -214,14 +273,14 @@ mod tests {
     #[test]
     fn a_sheet_is_taken_apart() {
         let path = [[0, 0, 10], [3, 0, 2], [6, 0, 10]];
-        let bytes = calls::keep(path.as_flattened(), 1).unwrap();
+        let bytes = calls::keep(path.as_flattened(), 2).unwrap();
         let header = Header::of(&bytes).unwrap();
-        assert_eq!((header.grade, header.length()), (1, bytes.len()));
+        assert_eq!((header.grade, header.length()), (2, bytes.len()));
         let sheet = Sheet::sound(bytes).unwrap();
         assert_eq!(sheet.vertices(), path);
-        assert_eq!(sheet.bodies(), [0..0, 0..8, 8..8, 8..16]);
-        assert_eq!(sheet.edge_count(), 16);
-        assert_eq!(sheet.edges(0..2).last(), Some([6, 8, -3, 10]));
+        assert_eq!(sheet.bodies(), [0..0, 0..14, 14..14, 14..28]);
+        assert_eq!(sheet.edge_count(), 28);
+        assert_eq!(sheet.edges(0..2).last(), Some([9, 5, 6, 8]));
         assert_eq!((sheet.edition(), sheet.numbers().unwrap()), (2, vec![0; 3]));
     }
 
@@ -229,18 +288,18 @@ mod tests {
     #[test]
     fn a_sheet_of_edition_1_is_taken_apart() {
         let path = [[0, 0, 10], [3, 0, 2], [6, 0, 10]];
-        let now = calls::keep(path.as_flattened(), 1).unwrap();
+        let now = calls::keep(path.as_flattened(), 2).unwrap();
         let mut once = [&[1], &now[1..20]].concat();
         for entry in now[20..80].chunks_exact(20) {
             once.extend([&entry[..12], &entry[16..]].concat());
         }
         once.extend(&now[80..]);
         let header = Header::of(&once).unwrap();
-        assert_eq!((header.grade, header.length()), (1, once.len()));
+        assert_eq!((header.grade, header.length()), (2, once.len()));
         let sheet = Sheet::sound(once).unwrap();
         assert_eq!(sheet.vertices(), path);
-        assert_eq!(sheet.bodies(), [0..0, 0..8, 8..8, 8..16]);
-        assert_eq!(sheet.edges(0..2).last(), Some([6, 8, -3, 10]));
+        assert_eq!(sheet.bodies(), [0..0, 0..14, 14..14, 14..28]);
+        assert_eq!(sheet.edges(0..2).last(), Some([9, 5, 6, 8]));
         assert_eq!((sheet.edition(), sheet.numbers().unwrap()), (1, vec![0; 3]));
     }
 
@@ -251,14 +310,14 @@ mod tests {
             join: Join::Round,
             closed: false,
         };
-        let bytes = calls::keep_kerb(&[0, 0, 20, 0, 20, 20], 1, style).unwrap();
+        let bytes = calls::keep_kerb(&[0, 0, 20, 0, 20, 20], 2, style).unwrap();
         let header = Header::of(&bytes).unwrap();
-        assert_eq!((header.grade, header.length()), (1, bytes.len()));
+        assert_eq!((header.grade, header.length()), (2, bytes.len()));
         let sheet = Sheet::sound(bytes).unwrap();
         assert_eq!(sheet.form(), Form::Kerb(style));
         assert_eq!(sheet.vertices(), [[0, 0, 0], [20, 0, 0], [20, 20, 0]]);
-        assert_eq!(sheet.bodies(), [0..4, 4..8, 8..10]);
-        assert_eq!(sheet.edges(8..9).last(), Some([0, 5, 0, -5]));
+        assert_eq!(sheet.bodies(), [0..4, 4..10, 10..12]);
+        assert_eq!(sheet.edges(10..11).last(), Some([0, 5, 0, -5]));
     }
 
     #[test]

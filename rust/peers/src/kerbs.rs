@@ -52,7 +52,7 @@ fn style(random: &mut Random, radius: i64) -> Style {
 }
 
 fn grade(random: &mut Random) -> u32 {
-    random.pick(&[1, 2, 3, 4, 6, 8])
+    random.pick(&[2, 2, 3, 4, 6, 8])
 }
 
 /// A kerb as they are built: its lines are four to twelve radii long, and it

@@ -42,7 +42,7 @@ impl Stroke {
 }
 
 fn grade(random: &mut Random) -> u32 {
-    random.pick(&[1, 2, 3, 4, 6, 8])
+    random.pick(&[2, 2, 3, 4, 6, 8])
 }
 
 /// A hedge as rust/bench has them, of 2 to 12 points.

@@ -1,18 +1,21 @@
 //! What the repository's command does with sheets, in plain Rust, for its tests: standard input to standard output, and on a refusal the reply and its
 //! number to standard error.
 //!
-//! sheet keep GRADE | sheet draw GRADE | sheet read | sheet replace K X Y RADIUS | sheet import | sheet export
+//! sheet keep GRADE | sheet draw GRADE | sheet read | sheet replace K X Y RADIUS | sheet convert GRADE | sheet import | sheet export
 //! sheet keep-kerb GRADE STYLE | sheet draw-kerb GRADE STYLE, a style being --radius R --join bevel|round [--closed]
-//! sheet explain [EDGE]
+//! sheet explain [EDGE] | sheet salvage
+//! sheet side BEFORE AFTER before|after VERTEX, the two sheets by their names
 //! sheet chunk-make ENTRIES BYTES | sheet chunk-add KEY OUTLINE | sheet chunk-find KEY | sheet chunk-remove KEY | sheet chunk-compact
 
 use plain::calls::{
-    draw, draw_kerb, keep_kerb, keep_records, numbers, read, replace, Record, Reply,
+    convert, draw, draw_kerb, keep_kerb, keep_records, numbers, read, replace, Record, Reply,
 };
 use plain::chunks;
 use plain::kerbs::StyleWords;
 use plain::oldest::{export, import};
 use plain::reasons;
+use plain::salvage::salvage;
+use plain::sides::side;
 use std::io::{self, Read, Write};
 use std::process::ExitCode;
 
@@ -158,6 +161,28 @@ fn as_text(sheet: &[u8]) -> Result<Vec<u8>, Reply> {
     }
 }
 
+/// The body of a vertex in one of two sheets, an edge a line.
+fn body(before: &[u8], after: &[u8], later: bool, vertex: usize) -> Result<Vec<u8>, Reply> {
+    let part = side(before, after, later, vertex);
+    if part.reply != 0 {
+        return Err(Reply::new(part.reply, part.number));
+    }
+    let chosen = if later { after } else { before };
+    let bytes = &chosen[part.offset as usize..][..part.length as usize];
+    let number = |word: &[u8]| i32::from_le_bytes(word.try_into().unwrap());
+    let numbers: Vec<i32> = bytes.chunks_exact(4).map(number).collect();
+    Ok(rows(&numbers, 4))
+}
+
+/// The sheet that is salvaged from a spoiled one.
+fn salvaged(spoiled: &[u8]) -> Result<Vec<u8>, Reply> {
+    let mut list = vec![0; 2 * (4096 + 2)];
+    lent(vec![], 1, |room| {
+        let salvaged = salvage(spoiled, room, &mut list);
+        Reply::new(salvaged.reply, salvaged.number)
+    })
+}
+
 /// Why an edge of a sheet is there, a line.
 fn why(sheet: &[u8], edge: usize) -> Result<Vec<u8>, Reply> {
     let (refusal, why) = reasons::explain(sheet, edge);
@@ -218,8 +243,17 @@ fn answer(words: &[&str], input: Vec<u8>) -> Option<Result<Vec<u8>, Reply>> {
             let radius = radius.parse().ok()?;
             lent(input, 1, |room| replace(room, index, x, y, radius))
         }
+        ["convert", grade] => {
+            let grade = grade.parse().ok()?;
+            lent(input, 1, |room| convert(room, grade))
+        }
+        ["salvage"] => salvaged(&input),
         ["explain"] => whys(&input),
         ["explain", edge] => why(&input, edge.parse().ok()?),
+        ["side", before, after, which, vertex] => {
+            let (before, after) = (std::fs::read(before).ok()?, std::fs::read(after).ok()?);
+            body(&before, &after, *which == "after", vertex.parse().ok()?)
+        }
         ["import"] => {
             let float = |word: &[u8]| f32::from_le_bytes(word.try_into().unwrap());
             let floats: Vec<f32> = input.chunks_exact(4).map(float).collect();
@@ -254,8 +288,10 @@ fn main() -> ExitCode {
         }
         None => {
             eprintln!(
-                "sheet keep GRADE | sheet draw GRADE | sheet read | sheet replace K X Y RADIUS | sheet import | sheet export\n\
-                 sheet keep-kerb GRADE STYLE | sheet draw-kerb GRADE STYLE | sheet explain [EDGE] | sheet chunk-.."
+                "sheet keep GRADE | sheet draw GRADE | sheet read | sheet replace K X Y RADIUS | sheet convert GRADE\n\
+                 sheet import | sheet export\n\
+                 sheet keep-kerb GRADE STYLE | sheet draw-kerb GRADE STYLE | sheet explain [EDGE] | sheet salvage | sheet chunk-..\n\
+                 sheet side BEFORE AFTER before|after VERTEX"
             );
             ExitCode::FAILURE
         }

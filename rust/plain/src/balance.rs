@@ -63,11 +63,13 @@ impl Line {
         self.style.is_none().then_some(Line { numbers, ..*self })
     }
 
-    /// Whether it is drawn, in whatever room.
+    /// Whether it is drawn, in whatever room. Outlines of grade 1 were drawn once,
+    /// and stand in stores.
     fn accepted(&self) -> bool {
+        let grade = if self.grade == 1 { 2 } else { self.grade };
         let reply = match self.style {
-            None => draw(&self.numbers, self.grade, &mut []),
-            Some(style) => draw_kerb(&self.numbers, self.grade, style, &mut []),
+            None => draw(&self.numbers, grade, &mut []),
+            Some(style) => draw_kerb(&self.numbers, grade, style, &mut []),
         };
         matches!(reply.reply, 0 | 5)
     }

@@ -1,6 +1,6 @@
 //! Document 01, the four calls and "Replies, tested in this order"; in the same
-//! replies, document 02's calls of a kerb and of point numbers, and how far
-//! replacing a vertex shows.
+//! replies, document 02's calls of a kerb and of point numbers, its conversion, and
+//! how far replacing a vertex shows.
 //!
 //! "A refusal changes no lent memory."
 
@@ -40,6 +40,28 @@ impl Reply {
     }
 }
 
+/// A reply and its number, and beside them where a part of lent memory stands, 0
+/// and 0 when refused.
+#[derive(Clone, Copy, Debug, PartialEq, Eq)]
+pub struct Part {
+    pub reply: u32,
+    pub number: u64,
+    pub offset: u64,
+    pub length: u64,
+}
+
+impl Part {
+    /// A refusal: no part.
+    pub(crate) fn refused(refusal: Reply) -> Part {
+        Part {
+            reply: refusal.reply,
+            number: refusal.number,
+            offset: 0,
+            length: 0,
+        }
+    }
+}
+
 /// Replies: 1, "numbers lent not a multiple of three", with "how many"; of a
 /// kerb, "1 for an odd count".
 pub(crate) fn tested_numbers(count: usize, each: usize) -> Result<(), Reply> {
@@ -49,10 +71,19 @@ pub(crate) fn tested_numbers(count: usize, each: usize) -> Result<(), Reply> {
     }
 }
 
-/// Replies: 3, "grade not 1 to 8", with "the grade".
-fn tested_grade(grade: u32) -> Result<(), Reply> {
+/// Replies: 3, "grade not 1 to 8", with "the grade", of a store.
+pub(crate) fn tested_grade(grade: u32) -> Result<(), Reply> {
     match grade {
         1..=8 => Ok(()),
+        _ => Err(Reply::new(3, grade as u64)),
+    }
+}
+
+/// Request 13: "Draw and keep refuse grade 1 with 3 from now on." "Replacing a
+/// vertex in one is refused with 3, just before 9 and after 12."
+fn tested_drawn_grade(grade: u32) -> Result<(), Reply> {
+    match grade {
+        2..=8 => Ok(()),
         _ => Err(Reply::new(3, grade as u64)),
     }
 }
@@ -72,7 +103,7 @@ pub(crate) fn tested_count(count: u64) -> Result<(), Reply> {
 }
 
 /// Replies: 4, "a vertex outside the limits", with "first such index".
-fn tested_limits(path: &[Vertex]) -> Result<(), Reply> {
+pub(crate) fn tested_limits(path: &[Vertex]) -> Result<(), Reply> {
     match path.iter().position(|vertex| !vertex.allowed()) {
         None => Ok(()),
         Some(index) => Err(Reply::new(4, index as u64)),
@@ -131,7 +162,7 @@ fn lent_path(numbers: &[i32], grade: u32) -> Result<Vec<Vertex>, Reply> {
 
 /// Draw, keep: what is tested of a path, however it is lent.
 fn tested_path(path: &[Vertex], grade: u32) -> Result<(), Reply> {
-    tested_grade(grade)?;
+    tested_drawn_grade(grade)?;
     tested_count(path.len() as u64)?;
     tested_limits(path)
 }
@@ -149,7 +180,7 @@ pub struct Record {
 /// style, or the refusal.
 fn lent_kerb(numbers: &[i32], grade: u32, words: StyleWords) -> Result<(Vec<Point>, Style), Reply> {
     tested_numbers(numbers.len(), 2)?;
-    tested_grade(grade)?;
+    tested_drawn_grade(grade)?;
     let style = tested_style(words)?;
     tested_count(numbers.len() as u64 / 2)?;
     let point = |n: &[i32]| Point::new(n[0] as i64, n[1] as i64);
@@ -169,22 +200,21 @@ fn tested_index(index: usize, path: &[Vertex]) -> Result<(), Reply> {
 
 /// What a sound outline holds: a path with point numbers in an edition, or the
 /// points of a kerb and its style.
-enum Line {
+pub(crate) enum Line {
     Path(Edition, Vec<Vertex>, Vec<u32>),
     Kerb(Vec<Point>, Style),
 }
 
 /// What reading and replacing find in a sound outline.
-struct Kept {
+pub(crate) struct Kept {
     grade: u32,
     line: Line,
     length: usize,
 }
 
 /// Replies: 6, "under 24 bytes, or edition not 1", nor, from request 11 on, 2,
-/// then 7, the kind, then, "straight after 7", 6 of a kerb "under 44 bytes" or
-/// of edition 2.
-fn tested_header(store: &[u8]) -> Result<(Header, Edition), Reply> {
+/// then 7, the kind.
+pub(crate) fn tested_start(store: &[u8]) -> Result<(Header, Edition), Reply> {
     let damaged = Reply::new(6, 0);
     if store.len() < LEAST_BYTES {
         return Err(damaged);
@@ -194,16 +224,22 @@ fn tested_header(store: &[u8]) -> Result<(Header, Edition), Reply> {
     if header.kind != STROKE && header.kind != KERB {
         return Err(Reply::new(7, header.kind as u64));
     }
+    Ok((header, edition))
+}
+
+/// Then, "straight after 7", 6 of a kerb "under 44 bytes" or of edition 2.
+fn tested_header(store: &[u8]) -> Result<(Header, Edition), Reply> {
+    let (header, edition) = tested_start(store)?;
     let short = store.len() < LEAST_KERB_BYTES;
     if header.kind == KERB && (short || edition == Edition::Second) {
-        return Err(damaged);
+        return Err(Reply::new(6, 0));
     }
     Ok((header, edition))
 }
 
 /// Read, replace: what the sound outline that the store begins with holds, its
 /// grade and its length, or the refusal.
-fn kept(store: &[u8]) -> Result<Kept, Reply> {
+pub(crate) fn kept(store: &[u8]) -> Result<Kept, Reply> {
     let (header, edition) = tested_header(store)?;
     tested_grade(header.grade)?;
     let style = match header.kind {
@@ -258,32 +294,35 @@ fn kept_line(
 }
 
 /// What is found in a sound outline of kind 0.
-struct KeptPath {
-    edition: Edition,
-    grade: u32,
-    path: Vec<Vertex>,
-    numbers: Vec<u32>,
-    length: usize,
+pub(crate) struct KeptPath {
+    pub edition: Edition,
+    pub grade: u32,
+    pub path: Vec<Vertex>,
+    pub numbers: Vec<u32>,
+    pub length: usize,
 }
 
-/// Request 3: "replacing or explaining kind 1 is 12, with the kind, just before
-/// 9 or 10". Request 11: of point numbers "kind 1 is 12, just before 5".
-fn kept_path(store: &[u8]) -> Result<KeptPath, Reply> {
-    let Kept {
-        grade,
-        line,
-        length,
-    } = kept(store)?;
-    match line {
-        Line::Path(edition, path, numbers) => Ok(KeptPath {
-            edition,
-            grade,
-            path,
-            numbers,
-            length,
-        }),
-        Line::Kerb(..) => Err(Reply::new(12, KERB as u64)),
+impl Kept {
+    /// Request 3: "replacing or explaining kind 1 is 12, with the kind, just
+    /// before 9 or 10". Request 11: of point numbers "kind 1 is 12, just before
+    /// 5". Request 10: "either sheet of kind 1 is 12, just before 9".
+    pub(crate) fn path(self) -> Result<KeptPath, Reply> {
+        match self.line {
+            Line::Path(edition, path, numbers) => Ok(KeptPath {
+                edition,
+                grade: self.grade,
+                path,
+                numbers,
+                length: self.length,
+            }),
+            Line::Kerb(..) => Err(Reply::new(12, KERB as u64)),
+        }
     }
+}
+
+/// What a store of kind 0 holds, or the refusal.
+fn kept_path(store: &[u8]) -> Result<KeptPath, Reply> {
+    kept(store)?.path()
 }
 
 /// The length of the sound outline that a store begins with, or the refusal.
@@ -430,6 +469,7 @@ pub fn replace(store: &mut [u8], index: usize, x: i32, y: i32, radius: i32) -> R
             numbers,
             length: old,
         } = kept_path(store)?;
+        tested_drawn_grade(grade)?;
         tested_index(index, &path)?;
         path[index] = Vertex::new(x as i64, y as i64, radius as i64);
         if !path[index].allowed() {
@@ -441,14 +481,43 @@ pub fn replace(store: &mut [u8], index: usize, x: i32, y: i32, radius: i32) -> R
             numbers: &numbers,
             grade,
         };
-        let words = sheet.laid(&drawn(&path, grade)?);
-        let length = 4 * words.len();
-        tested_room(length, 1, store.len())?;
-        put(&words, &mut store[..length]);
-        if length < old {
-            store[length..old].fill(0);
-        }
-        Ok(Reply::new(0, length as u64))
+        put_in_place(&sheet.laid(&drawn(&path, grade)?), store, old)
+    })
+}
+
+/// Replace, convert: an outline in the place of another of `old` bytes, in
+/// "replacement's room and zeros".
+fn put_in_place(words: &[u32], store: &mut [u8], old: usize) -> Result<Reply, Reply> {
+    let length = 4 * words.len();
+    tested_room(length, 1, store.len())?;
+    put(words, &mut store[..length]);
+    if length < old {
+        store[length..old].fill(0);
+    }
+    Ok(Reply::new(0, length as u64))
+}
+
+/// Request 13: "A conversion call redraws in place … any sound outline, one
+/// without edges too, at a grade its caller names; edition, vertices and point
+/// numbers stay. It is refused as reading is but 5, then 3 if the named grade
+/// isn't 2 to 8, then 5." "Conversion takes kind 1 too."
+pub fn convert(store: &mut [u8], grade: u32) -> Reply {
+    settle(|| {
+        let Kept { line, length, .. } = kept(store)?;
+        tested_drawn_grade(grade)?;
+        let words = match &line {
+            Line::Path(edition, path, numbers) => {
+                let sheet = Sheet {
+                    edition: *edition,
+                    path,
+                    numbers,
+                    grade,
+                };
+                sheet.words()
+            }
+            Line::Kerb(points, style) => kerb_words(points, grade, *style),
+        };
+        put_in_place(&words, store, length)
     })
 }
 

@@ -3,7 +3,7 @@
 //! "Table of contents first, in words: number of entries, and for each its key,
 //! offset and length; an entry of length 0 is empty."
 
-use crate::calls::{kept_length, settle, Reply};
+use crate::calls::{kept_length, settle, Part, Reply};
 use crate::outline::word;
 
 /// "Making a chunk sets their number, at most 1,024".
@@ -206,29 +206,18 @@ pub fn add(chunk: &mut [u8], key: u32, outline: &[u8]) -> Reply {
     })
 }
 
-/// What find answers: the reply and its number, and beside them where the
-/// outline stands, 0 and 0 when refused.
-#[derive(Clone, Copy, Debug, PartialEq, Eq)]
-pub struct Part {
-    pub reply: u32,
-    pub number: u64,
-    pub offset: u64,
-    pub length: u64,
-}
-
 /// "Find (offset and length)". The number with 0 is the length.
 pub fn find(chunk: &[u8], key: u32) -> Part {
     let found = sound_table(chunk)
         .and_then(|entries| place_there(&entries, key).map(|place| entries[place]));
-    let (Reply { reply, number, .. }, entry) = match found {
-        Ok(entry) => (Reply::new(0, entry.length as u64), entry),
-        Err(refusal) => (refusal, Entry::default()),
-    };
-    Part {
-        reply,
-        number,
-        offset: entry.offset as u64,
-        length: entry.length as u64,
+    match found {
+        Ok(entry) => Part {
+            reply: 0,
+            number: entry.length as u64,
+            offset: entry.offset as u64,
+            length: entry.length as u64,
+        },
+        Err(refusal) => Part::refused(refusal),
     }
 }
 

@@ -10,13 +10,16 @@
 //! * [`chains`] holds "Chains"
 //! * [`outline`] holds "The kept outline"
 //! * [`calls`] holds the four calls, "Replies, tested in this order", document
-//!   02's requests 9, "No silent nothing", and 11, "Point numbers", whose
-//!   edition 2 stands in [`outline`], and how far replacing a vertex shows
+//!   02's requests 9, "No silent nothing", 11, "Point numbers", whose edition 2
+//!   stands in [`outline`], and 13, "Grade 1 is retired", and how far replacing a
+//!   vertex shows
 //! * [`reasons`] holds document 02's request 1, "Why is this edge here?"
 //! * [`oldest`] holds document 02's request 5, "The oldest chunks"
 //! * [`kerbs`] holds document 02's request 3, "Kerbs of one width"
 //! * [`chunks`] holds document 02's request 8, "Many outlines in one chunk"
+//! * [`sides`] holds document 02's request 10, "Side by side"
 //! * [`closing`] holds document 02's request 12, "Boundaries that close"
+//! * [`salvage`] holds document 02's request 14, "Salvage"
 //! * [`ready`] holds document 02's request 2, "Circles from a ready table", for
 //!   timing alone
 //! * [`random`] holds the generator behind the tests and the lists of cases
@@ -34,3 +37,5 @@ pub mod outline;
 pub mod random;
 pub mod ready;
 pub mod reasons;
+pub mod salvage;
+pub mod sides;

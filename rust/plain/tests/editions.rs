@@ -79,7 +79,7 @@ fn keep_writes_edition_2_with_the_numbers_of_records_else_zeros() {
     let mut random = Random::new(21);
     for _ in 0..3_000 {
         let path = random_path(&mut random, 7);
-        let grade = random.between(1, 8) as u32;
+        let grade = random.between(2, 8) as u32;
         let points = random_numbers(&mut random, &path);
         let thin = !path.is_empty() && path.iter().all(|&(_, _, radius)| radius < 2);
         for (zeros, due) in [
@@ -122,14 +122,15 @@ fn records_are_refused_as_triples_are() {
     };
     let outside = vec![record(far, 1); 4097];
     let thin = vec![record(0, 1); 2];
-    let table: [(&[Record], u32, Reply); 7] = [
+    let table: [(&[Record], u32, Reply); 8] = [
         (&outside, 9, Reply::new(3, 9)),
         (&outside, 0, Reply::new(3, 0)),
+        (&outside, 1, Reply::new(3, 1)),
         (&outside, 8, Reply::new(2, 4097)),
         (&outside[1..], 8, Reply::new(4, 0)),
         (&[record(0, 1), record(0, -1)], 8, Reply::new(4, 1)),
         (&thin, 8, Reply::new(18, 2)),
-        (&[record(0, 10)], 1, Reply::new(5, 172)),
+        (&[record(0, 10)], 2, Reply::new(5, 268)),
     ];
     for (path, grade, due) in table {
         assert_eq!(keep_records(path, grade, &mut []), due);
@@ -309,12 +310,17 @@ fn outlines_kept_once_read_replace_and_compare_as_they_did() {
                 let zeros = vec![0; count];
                 let done = Reply::new(0, count as u64);
                 assert_eq!(point_numbers(&outline, count), (done, zeros));
-                // What is kept from the same path today differs in its entries alone.
+                // What is kept from the same path today differs in its entries alone,
+                // but at grade 1 nothing is kept any more.
                 let mut now = vec![0; outline.len() + 4 * count];
-                assert_eq!(keep(path, grade, &mut now).reply, 0);
-                assert_eq!(now[4..20], outline[4..20]);
-                let front = 20 + 16 * count;
-                assert_eq!(now[front + 4 * count..], outline[front..]);
+                if grade == 1 {
+                    assert_eq!(keep(path, grade, &mut now), Reply::new(3, 1));
+                } else {
+                    assert_eq!(keep(path, grade, &mut now).reply, 0);
+                    assert_eq!(now[4..20], outline[4..20]);
+                    let front = 20 + 16 * count;
+                    assert_eq!(now[front + 4 * count..], outline[front..]);
+                }
                 (store, strokes) = (outline, strokes + 1);
             }
             "replace" => {
@@ -323,11 +329,18 @@ fn outlines_kept_once_read_replace_and_compare_as_they_did() {
                 };
                 let old = store.len();
                 store.resize(old.max(outline.len()), 0xEE);
+                let before = store.clone();
                 let reply = replace(&mut store, index as usize, x, y, radius);
+                replaced += 1;
+                // At grade 1 nothing is replaced any more, but what was still reads.
+                if before[8] == 1 {
+                    assert_eq!((reply, &store), (Reply::new(3, 1), &before));
+                    assert_eq!(read(&outline, &mut [0; 64]).grade, 1);
+                    continue;
+                }
                 assert_eq!(reply, Reply::new(0, outline.len() as u64));
                 assert_eq!(store[..outline.len()], outline);
                 assert!(store[outline.len()..].iter().all(|&byte| byte == 0));
-                replaced += 1;
             }
             _ => {
                 let (head, points) = numbers.split_at(4);
@@ -339,8 +352,12 @@ fn outlines_kept_once_read_replace_and_compare_as_they_did() {
                 assert_eq!(room, points);
                 // Kerbs stay at edition 1.
                 let mut now = vec![0; outline.len()];
-                assert_eq!(keep_kerb(points, due.1, style, &mut now).reply, 0);
-                assert_eq!(now, outline);
+                let reply = keep_kerb(points, due.1, style, &mut now);
+                if due.1 == 1 {
+                    assert_eq!(reply, Reply::new(3, 1));
+                } else {
+                    assert_eq!((reply.reply, now), (0, outline));
+                }
                 kerbs += 1;
             }
         }

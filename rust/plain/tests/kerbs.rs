@@ -245,9 +245,11 @@ fn every_reply_of_draw_and_keep_in_order() {
     let far = 268435457;
     let big = vec![far; 2 * 4097];
     let kerb: &[i32] = &[0, 0, 20, 0];
-    let table: [(&[i32], u32, [u32; 3], Reply); 17] = [
+    let table: [(&[i32], u32, [u32; 3], Reply); 19] = [
         (&big[..8193], 9, [u32::MAX; 3], Reply::new(1, 8193)),
         (&[7], 1, [5, 0, 0], Reply::new(1, 1)),
+        (&big, 1, [u32::MAX; 3], Reply::new(3, 1)),
+        (kerb, 1, [5, 0, 0], Reply::new(3, 1)),
         (&big, 9, [u32::MAX; 3], Reply::new(3, 9)),
         (&big, 0, [u32::MAX; 3], Reply::new(3, 0)),
         (&big, 8, [far as u32, 2, 2], Reply::new(11, 5)),
@@ -258,11 +260,11 @@ fn every_reply_of_draw_and_keep_in_order() {
         (&big, 8, [1, 1, u32::MAX], Reply::new(11, 7)),
         (&big, 8, [1, 1, 1], Reply::new(2, 4097)),
         (&big[..8192], 8, [1, 1, 1], Reply::new(4, 0)),
-        (&[0, 0, 0, -far], 1, [1, 0, 0], Reply::new(4, 1)),
-        (kerb, 1, [1, 0, 0], Reply::new(18, 2)),
-        (kerb, 1, [0, 1, 1], Reply::new(18, 2)),
-        (&[3, 4, 3, 4, 3, 4], 1, [5, 1, 1], Reply::new(18, 3)),
-        (&[3, 4], 1, [5, 0, 0], Reply::new(18, 1)),
+        (&[0, 0, 0, -far], 2, [1, 0, 0], Reply::new(4, 1)),
+        (kerb, 2, [1, 0, 0], Reply::new(18, 2)),
+        (kerb, 2, [0, 1, 1], Reply::new(18, 2)),
+        (&[3, 4, 3, 4, 3, 4], 2, [5, 1, 1], Reply::new(18, 3)),
+        (&[3, 4], 2, [5, 0, 0], Reply::new(18, 1)),
     ];
     for (kerb, grade, style, expected) in table {
         for room in [0, 59, 60, 100] {
@@ -274,22 +276,22 @@ fn every_reply_of_draw_and_keep_in_order() {
         }
     }
     let widest = [268435456, 1, 1];
-    assert_eq!(draw_kerb(kerb, 1, widest, &mut []).reply, 5);
-    let draw = |room: usize| draw_kerb(kerb, 1, [5, 0, 0], &mut vec![0; room]);
+    assert_eq!(draw_kerb(kerb, 2, widest, &mut []).reply, 5);
+    let draw = |room: usize| draw_kerb(kerb, 2, [5, 0, 0], &mut vec![0; room]);
     assert_eq!(draw(15), Reply::new(5, 4));
     assert_eq!(draw(16), Reply::new(0, 4));
-    let keep = |room: usize| keep_kerb(kerb, 1, [5, 0, 0], &mut vec![0; room]);
+    let keep = |room: usize| keep_kerb(kerb, 2, [5, 0, 0], &mut vec![0; room]);
     assert_eq!(keep(123), Reply::new(5, 124));
     assert_eq!(keep(124), Reply::new(0, 124));
     assert_eq!(
-        keep_kerb(&[], 1, [0, 0, 1], &mut [0; 43]),
+        keep_kerb(&[], 2, [0, 0, 1], &mut [0; 43]),
         Reply::new(5, 44)
     );
     assert_eq!(
-        keep_kerb(&[], 1, [0, 0, 1], &mut [0; 44]),
+        keep_kerb(&[], 2, [0, 0, 1], &mut [0; 44]),
         Reply::new(0, 44)
     );
-    assert_eq!(draw_kerb(&[], 1, [9, 0, 1], &mut []), Reply::new(0, 0));
+    assert_eq!(draw_kerb(&[], 2, [9, 0, 1], &mut []), Reply::new(0, 0));
 }
 
 /// A store of these words, and `more` zero bytes after them.
@@ -381,7 +383,7 @@ fn a_kerb_reads_back() {
     let (mut taken, mut refused) = (0, 0);
     for _ in 0..6_000 {
         let (kerb, style) = random_kerb(&mut random);
-        let grade = random.between(1, 8) as u32;
+        let grade = random.between(2, 8) as u32;
         let bytes = kerb_bytes(&kerb, grade, style);
         let mut room = vec![0xA5; bytes.len() + 5];
         let kept = keep_kerb(&lent(&kerb), grade, style.words(), &mut room);

@@ -17,7 +17,7 @@ fn draw_and_keep_hold_the_bodies() {
     let mut random = Random::new(11);
     for _ in 0..3_000 {
         let path = random_path(&mut random, 7);
-        let grade = random.between(1, 8) as u32;
+        let grade = random.between(2, 8) as u32;
         let bodies = bodies(&vertices(&path), grade);
         let edges: Vec<i32> = bodies.concat().concat();
         let mut room = vec![9; edges.len() + 5];
@@ -115,7 +115,7 @@ fn replacing_equals_keeping_the_changed_path() {
         if path.is_empty() {
             continue;
         }
-        let grade = random.between(1, 6) as u32;
+        let grade = random.between(2, 6) as u32;
         let points = random_numbers(&mut random, &path);
         let second = random.chance(50);
         let outline = |path: &[_]| match second {
@@ -251,7 +251,7 @@ fn refusals_change_nothing() {
     let mut random = Random::new(16);
     for _ in 0..3_000 {
         let path = random_path(&mut random, 5);
-        let grade = random.between(1, 3) as u32;
+        let grade = random.between(2, 4) as u32;
         let lent = numbers(&path);
         let mut store = kept(&path, grade);
         let mut room = vec![7; random.below(store.len() as u64) as usize];

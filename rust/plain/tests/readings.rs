@@ -20,8 +20,8 @@ fn reading_1_numbers_are_64_bits_wide() {
 
 #[test]
 fn reading_2_a_negative_radius_is_outside() {
-    assert_eq!(keep(&[0, 0, -1], 1, &mut []), Reply::new(4, 0));
-    let mut store = common::kept(&[(0, 0, 2)], 1);
+    assert_eq!(keep(&[0, 0, -1], 2, &mut []), Reply::new(4, 0));
+    let mut store = common::kept(&[(0, 0, 2)], 2);
     assert_eq!(replace(&mut store, 0, 0, 0, -1), Reply::new(4, 0));
 }
 
@@ -101,7 +101,7 @@ fn reading_9_a_finish_belongs_to_the_vertex_reached() {
 #[test]
 fn reading_10_the_number_with_1_is_how_many_were_lent() {
     let lent = numbers(&[(0, 0, 2), (9, 9, 9)]);
-    assert_eq!(keep(&lent[..5], 1, &mut []), Reply::new(1, 5));
+    assert_eq!(keep(&lent[..5], 2, &mut []), Reply::new(1, 5));
 }
 
 #[test]

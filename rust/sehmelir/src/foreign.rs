@@ -1,6 +1,7 @@
 //! The archive's calls, as `include/sehmelir.h` declares them, on slices.
 
 use crate::{Form, Join, Kept, Refusal, Style, Untaken, Vertex};
+use std::ops::Range;
 
 /// `struct sehmelir_reply`.
 #[repr(C)]
@@ -44,6 +45,7 @@ pub fn refused(reply: u32, number: u64) -> Refusal {
         16 => Refusal::KeyMissing(word),
         17 => Refusal::TableFull(long),
         18 => Refusal::WithoutEdges(long),
+        19 => Refusal::NoListRoom(long),
         reply => panic!("the archive gives reply {reply}, which this crate does not know"),
     }
 }
@@ -79,6 +81,26 @@ impl Path {
             grade: self.reply.grade,
             form,
         })
+    }
+}
+
+/// `struct sehmelir_part`.
+#[repr(C)]
+pub struct Part {
+    reply: u32,
+    zero: u32,
+    number: u64,
+    offset: u64,
+    length: u64,
+}
+
+impl Part {
+    /// The bytes of the part, or the refusal.
+    pub fn range(&self) -> Result<Range<usize>, Refusal> {
+        match self.reply {
+            0 => Ok(self.offset as usize..(self.offset + self.length) as usize),
+            reply => Err(refused(reply, self.number)),
+        }
     }
 }
 
@@ -159,7 +181,18 @@ extern "C" {
         radius: i32,
     ) -> Reply;
 
+    fn sehmelir_convert(store: *mut u8, store_len: usize, grade: u32) -> Reply;
+
     fn sehmelir_reach(store: *const u8, store_len: usize, index: usize) -> Reply;
+
+    fn sehmelir_side(
+        before: *const u8,
+        before_len: usize,
+        after: *const u8,
+        after_len: usize,
+        later: bool,
+        vertex: usize,
+    ) -> Part;
 
     fn sehmelir_take_coordinate(value: f32) -> Taken;
 
@@ -193,9 +226,9 @@ extern "C" {
 
 // SAFETY, of every call below: the archive asks for pointers that are not null
 // and aligned, of an empty slice too, to memory of the length beside them that
-// does not overlap and that nobody else writes meanwhile, nor reads where the
-// call writes. A slice's pointer and length are that, and a mutable slice is
-// borrowed by nobody else.
+// nobody else writes meanwhile, nor reads where the call writes, and where it
+// writes does not overlap. A slice's pointer and length are that, and a mutable
+// slice is borrowed by nobody else.
 
 pub fn draw(path: &[i32], grade: u32, out: &mut [i32]) -> Reply {
     unsafe {
@@ -263,8 +296,25 @@ pub fn replace(store: &mut [u8], index: usize, x: i32, y: i32, radius: i32) -> R
     unsafe { sehmelir_replace(store.as_mut_ptr(), store.len(), index, x, y, radius) }
 }
 
+pub fn convert(store: &mut [u8], grade: u32) -> Reply {
+    unsafe { sehmelir_convert(store.as_mut_ptr(), store.len(), grade) }
+}
+
 pub fn reach(store: &[u8], index: usize) -> Reply {
     unsafe { sehmelir_reach(store.as_ptr(), store.len(), index) }
+}
+
+pub fn side(before: &[u8], after: &[u8], later: bool, vertex: usize) -> Part {
+    unsafe {
+        sehmelir_side(
+            before.as_ptr(),
+            before.len(),
+            after.as_ptr(),
+            after.len(),
+            later,
+            vertex,
+        )
+    }
 }
 
 pub fn take_coordinate(value: f32) -> Taken {

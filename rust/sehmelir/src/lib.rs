@@ -7,6 +7,8 @@ mod form;
 mod reason;
 mod records;
 mod refusal;
+mod salvage;
+mod side;
 mod untaken;
 
 use std::ops::RangeInclusive;
@@ -14,8 +16,10 @@ use std::ops::RangeInclusive;
 pub use chunk::{table_bytes, Chunk, MOST_ENTRIES};
 pub use form::{Form, Join, Kept, Style};
 pub use reason::{explain, list, whys, Reason, Why};
-pub use records::{draw_records, keep_records, Vertex};
+pub use records::{draw_records, keep_records, outline_of_records, records, Vertex};
 pub use refusal::Refusal;
+pub use salvage::{salvage, salvaged, Difference, Differs, Salvaged};
+pub use side::{side, side_range, Sheet};
 pub use untaken::Untaken;
 
 /// The most vertices that a path may have.
@@ -27,19 +31,21 @@ pub const COORDINATES: RangeInclusive<i32> = -268_435_456..=268_435_456;
 /// The radii that a vertex may have.
 pub const RADII: RangeInclusive<i32> = 0..=268_435_456;
 
-/// The grades, from the coarsest to the finest.
-pub const GRADES: RangeInclusive<u32> = 1..=8;
+/// The grades that lines are drawn and kept at, from the coarsest to the finest.
+/// Outlines of grade 1, which is retired, are still read, and [`convert`] redraws
+/// them.
+pub const GRADES: RangeInclusive<u32> = 2..=8;
 
 /// The bytes of stack that a call takes at most: a thread that calls needs
 /// more than that.
-pub const STACK: usize = 584 << 10;
+pub const STACK: usize = 608 << 10;
 
 /// The bytes of an outline with so many vertices and edges, as [`keep`] writes
 /// it.
 ///
 /// ```
-/// let store = sehmelir::outline(&[0, 0, 10], 1)?;
-/// assert_eq!(store.len(), sehmelir::outline_bytes(1, 8));
+/// let store = sehmelir::outline(&[0, 0, 10], 2)?;
+/// assert_eq!(store.len(), sehmelir::outline_bytes(1, 14));
 /// # Ok::<(), sehmelir::Refusal>(())
 /// ```
 pub const fn outline_bytes(vertices: usize, edges: usize) -> usize {
@@ -52,7 +58,7 @@ pub const fn outline_bytes(vertices: usize, edges: usize) -> usize {
 /// use sehmelir::{kerb, kerb_bytes, Join, Style};
 ///
 /// let style = Style { radius: 5, join: Join::Bevel, closed: false };
-/// assert_eq!(kerb(&[0, 0, 20, 0], 1, style)?.len(), kerb_bytes(2, 4));
+/// assert_eq!(kerb(&[0, 0, 20, 0], 2, style)?.len(), kerb_bytes(2, 4));
 /// # Ok::<(), sehmelir::Refusal>(())
 /// ```
 pub const fn kerb_bytes(vertices: usize, edges: usize) -> usize {
@@ -66,10 +72,10 @@ pub const fn kerb_bytes(vertices: usize, edges: usize) -> usize {
 /// then x and y of its end. Numbers of `out` past the edges stay as they were.
 ///
 /// ```
-/// let mut out = [7; 36];
-/// assert_eq!(sehmelir::draw(&[0, 0, 10], 1, &mut out), Ok(8));
-/// assert_eq!(out[..8], [10, 0, 6, 8, 6, 8, -3, 10]);
-/// assert_eq!(out[32..], [7; 4]);
+/// let mut out = [7; 60];
+/// assert_eq!(sehmelir::draw(&[0, 0, 10], 2, &mut out), Ok(14));
+/// assert_eq!(out[..8], [10, 0, 9, 5, 9, 5, 6, 8]);
+/// assert_eq!(out[56..], [7; 4]);
 /// ```
 ///
 /// # Errors
@@ -82,11 +88,11 @@ pub const fn kerb_bytes(vertices: usize, edges: usize) -> usize {
 /// ```
 /// use sehmelir::{draw, Refusal};
 ///
-/// assert_eq!(draw(&[0, 0], 1, &mut []), Err(Refusal::Uneven(2)));
-/// assert_eq!(draw(&[0, 0, 10], 9, &mut []), Err(Refusal::Grade(9)));
-/// assert_eq!(draw(&[0, 0, -1], 1, &mut []), Err(Refusal::Outside(0)));
-/// assert_eq!(draw(&[0, 0, 1], 1, &mut []), Err(Refusal::WithoutEdges(1)));
-/// assert_eq!(draw(&[0, 0, 10], 1, &mut [0; 31]), Err(Refusal::NoRoom(8)));
+/// assert_eq!(draw(&[0, 0], 2, &mut []), Err(Refusal::Uneven(2)));
+/// assert_eq!(draw(&[0, 0, 10], 1, &mut []), Err(Refusal::Grade(1)));
+/// assert_eq!(draw(&[0, 0, -1], 2, &mut []), Err(Refusal::Outside(0)));
+/// assert_eq!(draw(&[0, 0, 1], 2, &mut []), Err(Refusal::WithoutEdges(1)));
+/// assert_eq!(draw(&[0, 0, 10], 2, &mut [0; 55]), Err(Refusal::NoRoom(14)));
 /// ```
 pub fn draw(path: &[i32], grade: u32, out: &mut [i32]) -> Result<usize, Refusal> {
     foreign::draw(path, grade, out).number()
@@ -99,10 +105,10 @@ pub fn draw(path: &[i32], grade: u32, out: &mut [i32]) -> Result<usize, Refusal>
 /// `out` past the outline stay as they were.
 ///
 /// ```
-/// let mut out = [7; 174];
-/// assert_eq!(sehmelir::keep(&[0, 0, 10], 1, &mut out), Ok(172));
-/// assert_eq!(out[..20], [2, 0, 0, 0, 0, 0, 0, 0, 1, 0, 0, 0, 1, 0, 0, 0, 8, 0, 0, 0]);
-/// assert_eq!(out[172..], [7, 7]);
+/// let mut out = [7; 270];
+/// assert_eq!(sehmelir::keep(&[0, 0, 10], 2, &mut out), Ok(268));
+/// assert_eq!(out[..20], [2, 0, 0, 0, 0, 0, 0, 0, 2, 0, 0, 0, 1, 0, 0, 0, 14, 0, 0, 0]);
+/// assert_eq!(out[268..], [7, 7]);
 /// ```
 ///
 /// # Errors
@@ -113,7 +119,7 @@ pub fn draw(path: &[i32], grade: u32, out: &mut [i32]) -> Result<usize, Refusal>
 /// ```
 /// use sehmelir::{keep, Refusal};
 ///
-/// assert_eq!(keep(&[0, 0, 10], 1, &mut []), Err(Refusal::NoRoom(172)));
+/// assert_eq!(keep(&[0, 0, 10], 2, &mut []), Err(Refusal::NoRoom(268)));
 /// ```
 pub fn keep(path: &[i32], grade: u32, out: &mut [u8]) -> Result<usize, Refusal> {
     foreign::keep(path, grade, out).number()
@@ -132,7 +138,7 @@ pub fn keep(path: &[i32], grade: u32, out: &mut [u8]) -> Result<usize, Refusal> 
 ///
 /// let style = Style { radius: 5, join: Join::Round, closed: false };
 /// let mut out = [7; 18];
-/// assert_eq!(draw_kerb(&[0, 0, 20, 0], 1, style, &mut out), Ok(4));
+/// assert_eq!(draw_kerb(&[0, 0, 20, 0], 2, style, &mut out), Ok(4));
 /// assert_eq!(out[..8], [20, 5, 0, 5, 0, -5, 20, -5]);
 /// assert_eq!(out[8..], [0, 5, 0, -5, 20, -5, 20, 5, 7, 7]);
 /// ```
@@ -153,10 +159,10 @@ pub fn keep(path: &[i32], grade: u32, out: &mut [u8]) -> Result<usize, Refusal> 
 /// let wide = Style { radius: 268435457, ..style };
 /// let thin = Style { radius: 1, ..style };
 /// let line = [0, 0, 20, 0];
-/// assert_eq!(draw_kerb(&line[..3], 1, style, &mut []), Err(Refusal::Uneven(3)));
-/// assert_eq!(draw_kerb(&line, 1, wide, &mut []), Err(Refusal::StyleWord(5)));
-/// assert_eq!(draw_kerb(&line, 1, thin, &mut []), Err(Refusal::WithoutEdges(2)));
-/// assert_eq!(draw_kerb(&line, 1, style, &mut []), Err(Refusal::NoRoom(10)));
+/// assert_eq!(draw_kerb(&line[..3], 2, style, &mut []), Err(Refusal::Uneven(3)));
+/// assert_eq!(draw_kerb(&line, 2, wide, &mut []), Err(Refusal::StyleWord(5)));
+/// assert_eq!(draw_kerb(&line, 2, thin, &mut []), Err(Refusal::WithoutEdges(2)));
+/// assert_eq!(draw_kerb(&line, 2, style, &mut []), Err(Refusal::NoRoom(10)));
 /// ```
 pub fn draw_kerb(
     points: &[i32],
@@ -177,7 +183,7 @@ pub fn draw_kerb(
 ///
 /// let style = Style { radius: 5, join: Join::Round, closed: false };
 /// let mut out = [7; 126];
-/// assert_eq!(keep_kerb(&[0, 0, 20, 0], 1, style, &mut out), Ok(124));
+/// assert_eq!(keep_kerb(&[0, 0, 20, 0], 2, style, &mut out), Ok(124));
 /// assert_eq!(out[4..8], [1, 0, 0, 0]);
 /// assert_eq!(out[20..32], [5, 0, 0, 0, 1, 0, 0, 0, 0, 0, 0, 0]);
 /// assert_eq!(out[124..], [7, 7]);
@@ -233,7 +239,7 @@ pub fn keep_kerb(
 /// ```
 /// use sehmelir::{outline, read, Refusal};
 ///
-/// let mut store = outline(&[0, 0, 10], 1)?;
+/// let mut store = outline(&[0, 0, 10], 2)?;
 /// assert_eq!(read(&store, &mut [0; 2]), Err(Refusal::NoRoom(1)));
 /// store[50] ^= 1;
 /// assert_eq!(read(&store, &mut [0; 3]), Err(Refusal::NotSound(50)));
@@ -246,20 +252,21 @@ pub fn read(store: &[u8], out: &mut [i32]) -> Result<Kept, Refusal> {
 /// Reads the point numbers of a sound outline of a path into lent numbers, one a
 /// vertex, and returns how many there are.
 ///
-/// A point number is any 32-bit word: the vertex's number in the survey book. All
-/// are 0 in an outline that [`keep`] or [`keep_records`] wrote, and in one of
-/// edition 1, which has none. Numbers of `out` past them stay as they were.
+/// A point number is any 32-bit word: the vertex's number in the survey book.
+/// [`keep_records`] writes those of its records, [`keep`] writes 0, and edition 1
+/// has none, which gives 0 too. Numbers of `out` past them stay as they were.
 ///
 /// ```
-/// use sehmelir::{numbers, outline, replace};
+/// use sehmelir::{numbers, outline_of_records, replace, Vertex};
 ///
-/// let mut store = outline(&[0, 0, 5, 20, 0, 5, 40, 0, 5], 1)?;
+/// let mut hedge = [[0, 0, 5], [20, 0, 5], [40, 0, 5]].map(Vertex::from);
+/// hedge[0].number = 411;
+/// let mut store = outline_of_records(&hedge, 2)?;
 /// let mut out = [7; 4];
 /// assert_eq!(numbers(&store, &mut out), Ok(3));
-/// assert_eq!(out, [0, 0, 0, 7]);
+/// assert_eq!(out, [411, 0, 0, 7]);
 ///
-/// // number 411 for the first vertex: the word after its radius
-/// store[32..36].copy_from_slice(&411_u32.to_le_bytes());
+/// // a replaced vertex keeps its number
 /// store.resize(1000, 0);
 /// replace(&mut store, 0, 0, 7, 5)?;
 /// assert_eq!(numbers(&store, &mut out), Ok(3));
@@ -277,9 +284,9 @@ pub fn read(store: &[u8], out: &mut [i32]) -> Result<Kept, Refusal> {
 /// use sehmelir::{kerb, numbers, outline, Join, Refusal, Style};
 ///
 /// let style = Style { radius: 5, join: Join::Bevel, closed: false };
-/// let store = kerb(&[0, 0, 20, 0], 1, style)?;
+/// let store = kerb(&[0, 0, 20, 0], 2, style)?;
 /// assert_eq!(numbers(&store, &mut []), Err(Refusal::OtherKind(1)));
-/// let store = outline(&[0, 0, 5, 20, 0, 5], 1)?;
+/// let store = outline(&[0, 0, 5, 20, 0, 5], 2)?;
 /// assert_eq!(numbers(&store, &mut [7]), Err(Refusal::NoRoom(2)));
 /// # Ok::<(), Refusal>(())
 /// ```
@@ -295,32 +302,32 @@ pub fn numbers(store: &[u8], out: &mut [u32]) -> Result<usize, Refusal> {
 /// past both stay as they were.
 ///
 /// ```
-/// let mut store = sehmelir::outline(&[0, 0, 10, 3, 0, 2], 1)?;
+/// let mut store = sehmelir::outline(&[0, 0, 10, 3, 0, 2], 2)?;
 /// store.push(7);
-/// assert_eq!(sehmelir::replace(&mut store, 1, 20, 0, 10)?, 224);
-/// assert_eq!(store[..224], sehmelir::outline(&[0, 0, 10, 20, 0, 10], 1)?);
-/// assert_eq!(store[224..320], [0; 96]);
-/// assert_eq!(store[320..], [7]);
+/// assert_eq!(sehmelir::replace(&mut store, 1, 20, 0, 10)?, 320);
+/// assert_eq!(store[..320], sehmelir::outline(&[0, 0, 10, 20, 0, 10], 2)?);
+/// assert_eq!(store[320..480], [0; 160]);
+/// assert_eq!(store[480..], [7]);
 /// # Ok::<(), sehmelir::Refusal>(())
 /// ```
 ///
 /// # Errors
 ///
 /// Those of [`read`] up to [`NotSound`](Refusal::NotSound), then
-/// [`OtherKind`](Refusal::OtherKind) of a kerb,
-/// [`NoVertex`](Refusal::NoVertex), [`Outside`](Refusal::Outside) of the new
-/// vertex with its index, [`WithoutEdges`](Refusal::WithoutEdges) of the
+/// [`OtherKind`](Refusal::OtherKind) of a kerb, [`Grade`](Refusal::Grade) of an
+/// outline of grade 1, [`NoVertex`](Refusal::NoVertex),
+/// [`Outside`](Refusal::Outside) of the new vertex with its index, [`WithoutEdges`](Refusal::WithoutEdges) of the
 /// changed path, [`NoRoom`](Refusal::NoRoom) with the bytes needed. A refusal
 /// leaves the store as it was.
 ///
 /// ```
 /// use sehmelir::{outline, replace, Refusal};
 ///
-/// let mut store = outline(&[0, 0, 5, 3, 4, 0], 1)?;
+/// let mut store = outline(&[0, 0, 5, 3, 4, 0], 2)?;
 /// assert_eq!(replace(&mut store, 2, 0, 0, 10), Err(Refusal::NoVertex(2)));
 /// assert_eq!(replace(&mut store, 0, 0, 0, -1), Err(Refusal::Outside(0)));
 /// assert_eq!(replace(&mut store, 0, 0, 0, 1), Err(Refusal::WithoutEdges(2)));
-/// assert_eq!(replace(&mut store, 1, 20, 0, 5), Err(Refusal::NoRoom(224)));
+/// assert_eq!(replace(&mut store, 1, 20, 0, 5), Err(Refusal::NoRoom(320)));
 /// # Ok::<(), Refusal>(())
 /// ```
 pub fn replace(
@@ -331,6 +338,50 @@ pub fn replace(
     radius: i32,
 ) -> Result<usize, Refusal> {
     foreign::replace(store, index, x, y, radius).number()
+}
+
+/// Redraws a sound outline, of a path or of a kerb, at another grade in its place,
+/// and returns how many bytes it then has. Its edition, vertices and point numbers
+/// stay.
+///
+/// It is then, byte for byte, what [`keep`] writes of the same path at that grade,
+/// in the outline's own edition. Outlines of grade 1 are taken, and those without
+/// edges. The store is its room, as in [`replace`]: where it outgrows the old
+/// outline it takes the bytes after that; where it shrinks, zeros follow up to the
+/// old end. Bytes past both stay as they were.
+///
+/// ```
+/// use sehmelir::{convert, outline};
+///
+/// let mut store = outline(&[0, 0, 10], 4)?;
+/// let old = store.len();
+/// store.push(7);
+/// assert_eq!(convert(&mut store, 2)?, 268);
+/// assert_eq!(store[..268], outline(&[0, 0, 10], 2)?);
+/// assert!(store[268..old].iter().all(|&byte| byte == 0));
+/// assert_eq!(store[old..], [7]);
+/// # Ok::<(), sehmelir::Refusal>(())
+/// ```
+///
+/// # Errors
+///
+/// Those of [`read`] up to [`NotSound`](Refusal::NotSound), then
+/// [`Grade`](Refusal::Grade) of a grade to convert to that is not 2 to 8,
+/// [`NoRoom`](Refusal::NoRoom) with the bytes needed. A refusal leaves the store as
+/// it was.
+///
+/// ```
+/// use sehmelir::{convert, outline, Refusal};
+///
+/// let mut store = outline(&[0, 0, 10], 2)?;
+/// assert_eq!(convert(&mut store, 1), Err(Refusal::Grade(1)));
+/// assert_eq!(convert(&mut store, 3), Err(Refusal::NoRoom(460)));
+/// store[50] ^= 1;
+/// assert_eq!(convert(&mut store, 1), Err(Refusal::NotSound(50)));
+/// # Ok::<(), Refusal>(())
+/// ```
+pub fn convert(store: &mut [u8], grade: u32) -> Result<usize, Refusal> {
+    foreign::convert(store, grade).number()
 }
 
 /// How far replacing a vertex of a sound outline can reach: returns j, the
@@ -344,13 +395,13 @@ pub fn replace(
 ///
 /// ```
 /// let hedge = [0, 0, 5, 20, 0, 5, 40, 0, 5, 60, 0, 5];
-/// let store = sehmelir::outline(&hedge, 1)?;
+/// let store = sehmelir::outline(&hedge, 2)?;
 /// assert_eq!(sehmelir::reach(&store, 0)?, 2);
 /// assert_eq!(sehmelir::reach(&store, 1)?, 3);
 /// assert_eq!(sehmelir::reach(&store, 2)?, 4);
 ///
 /// // the step to vertex 2 is thin
-/// let store = sehmelir::outline(&[0, 0, 5, 20, 0, 1, 40, 0, 1, 60, 0, 5], 1)?;
+/// let store = sehmelir::outline(&[0, 0, 5, 20, 0, 1, 40, 0, 1, 60, 0, 5], 2)?;
 /// assert_eq!(sehmelir::reach(&store, 0)?, 3);
 /// # Ok::<(), sehmelir::Refusal>(())
 /// ```
@@ -364,7 +415,7 @@ pub fn replace(
 /// ```
 /// use sehmelir::{outline, reach, Refusal};
 ///
-/// let store = outline(&[0, 0, 10], 1)?;
+/// let store = outline(&[0, 0, 10], 2)?;
 /// assert_eq!(reach(&store, 0), Ok(1));
 /// assert_eq!(reach(&store, 1), Err(Refusal::NoVertex(1)));
 /// assert_eq!(reach(&[], 0), Err(Refusal::NotOutline));
@@ -480,8 +531,8 @@ pub fn export(path: &[i32], out: &mut [f32]) -> Result<usize, Refusal> {
 /// A path's edges in memory of their own: [`draw`] without a room.
 ///
 /// ```
-/// let edges = sehmelir::edges(&[0, 0, 5, 20, 0, 5], 1)?;
-/// assert_eq!(edges.len(), 10);
+/// let edges = sehmelir::edges(&[0, 0, 5, 20, 0, 5], 2)?;
+/// assert_eq!(edges.len(), 16);
 /// assert_eq!(edges[0], [20, 5, 0, 5]);
 /// # Ok::<(), sehmelir::Refusal>(())
 /// ```
@@ -497,7 +548,7 @@ pub fn edges(path: &[i32], grade: u32) -> Result<Vec<[i32; 4]>, Refusal> {
 ///
 /// ```
 /// assert_eq!(sehmelir::outline(&[], 2)?.len(), 24);
-/// assert_eq!(sehmelir::outline(&[0, 0, 10], 1)?.len(), 172);
+/// assert_eq!(sehmelir::outline(&[0, 0, 10], 2)?.len(), 268);
 /// # Ok::<(), sehmelir::Refusal>(())
 /// ```
 ///
@@ -528,7 +579,7 @@ pub fn kerb(points: &[i32], grade: u32, style: Style) -> Result<Vec<u8>, Refusal
 /// What a call writes when it has just the room that it needs, which it tells
 /// when it has none.
 fn with_room<T: Clone + Default>(
-    call: impl Fn(&mut [T]) -> Result<usize, Refusal>,
+    mut call: impl FnMut(&mut [T]) -> Result<usize, Refusal>,
 ) -> Result<Vec<T>, Refusal> {
     let needed = match call(&mut []) {
         Err(Refusal::NoRoom(needed)) => needed,

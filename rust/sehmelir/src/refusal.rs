@@ -13,14 +13,17 @@ pub enum Refusal {
     Uneven(usize),
     /// 2: so many vertices are above 4,096.
     TooMany(usize),
-    /// 3: this grade is not 1 to 8.
+    /// 3: this grade is not 2 to 8, or not 1 to 8 where an outline is read: at
+    /// grade 1 nothing is drawn, kept or replaced any more, and nothing converted
+    /// to it.
     Grade(u32),
     /// 4: the vertex of this index, the first such, lies outside the limits: x
     /// and y from -268,435,456 to 268,435,456, radius from 0 to 268,435,456.
     Outside(usize),
     /// 5: the result has so many edges ([`draw`](crate::draw),
     /// [`list`](crate::list)), bytes
-    /// ([`keep`](crate::keep), [`replace`](crate::replace)) or vertices
+    /// ([`keep`](crate::keep), [`replace`](crate::replace),
+    /// [`convert`](crate::convert), [`salvage`](crate::salvage)) or vertices
     /// ([`read`](crate::read), [`numbers`](crate::numbers),
     /// [`import`](crate::import), [`export`](crate::export)), and the room lent is shorter; or the outline
     /// that is added to a [`Chunk`](crate::Chunk) has so many bytes, and the
@@ -28,7 +31,7 @@ pub enum Refusal {
     NoRoom(usize),
     /// 6: the store has under 24 bytes, or of kind 1 under 44, or its edition is
     /// neither 1 nor 2, or of kind 1 not 1, or it is shorter than its header
-    /// says.
+    /// says; where it is salvaged, it ends before its closing count does.
     NotOutline,
     /// 7: the outline is of this kind, which is neither 0 nor 1.
     Kind(u32),
@@ -43,7 +46,8 @@ pub enum Refusal {
     /// range is the one at this place of the header, counted from 0: 5, 6 or 7.
     StyleWord(u32),
     /// 12: the outline is of this kind, whose vertices are not replaced and have
-    /// no point numbers, and whose edges are not explained.
+    /// no point numbers and no bodies, whose edges are not explained, and which is
+    /// not salvaged.
     OtherKind(u32),
     /// 13: of the numbers lent to [`import`](crate::import) or
     /// [`export`](crate::export) the one at this place, counted from 0, is the
@@ -63,6 +67,9 @@ pub enum Refusal {
     /// 18: the path has so many vertices, at least one, and no edges: so it is
     /// where every radius is 0 or 1.
     WithoutEdges(usize),
+    /// 19: [`salvage`](crate::salvage)'s list has so many entries of two words,
+    /// and the room lent for it is shorter.
+    NoListRoom(usize),
 }
 
 impl Refusal {
@@ -91,6 +98,7 @@ impl Refusal {
             Refusal::KeyMissing(_) => 16,
             Refusal::TableFull(_) => 17,
             Refusal::WithoutEdges(_) => 18,
+            Refusal::NoListRoom(_) => 19,
         }
     }
 }
@@ -105,12 +113,14 @@ impl Display for Refusal {
                 )
             }
             Refusal::TooMany(count) => write!(formatter, "{count} vertices are above 4096"),
-            Refusal::Grade(grade) => write!(formatter, "grade {grade} is not 1 to 8"),
+            Refusal::Grade(1) => write!(formatter, "grade 1 is retired, and only read"),
+            Refusal::Grade(grade) => write!(formatter, "grade {grade} is not 2 to 8"),
             Refusal::Outside(index) => write!(formatter, "vertex {index} is outside the limits"),
             Refusal::NoRoom(needed) => write!(
                 formatter,
                 "the room is too short: the result has {needed} edges if drawn or listed, \
-                 vertices if read, imported or exported, bytes if kept, replaced or added"
+                 vertices if read, imported or exported, bytes if kept, replaced, converted, added \
+                 or salvaged"
             ),
             Refusal::NotOutline => {
                 write!(
@@ -149,6 +159,12 @@ impl Display for Refusal {
             }
             Refusal::WithoutEdges(count) => {
                 write!(formatter, "a path of {count} vertices has no edges")
+            }
+            Refusal::NoListRoom(entries) => {
+                write!(
+                    formatter,
+                    "the list has {entries} entries and no room for them"
+                )
             }
         }
     }

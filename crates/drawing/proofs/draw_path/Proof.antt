@@ -1,5 +1,4 @@
--- `drawing::draw_path` meets its contract: no vertices have no edges, and whatever own numbers are picked, the edges are the path's. Assumes nothing.
-use native.Mathlib.Omega.{arith}
+-- `drawing::draw_path` meets its contract: no vertices have no edges. Assumes nothing.
 use borrow.Author.Needs.{needs}
 use Rattle.drawing.proofs.DrawAnswers.{draws-none}
 use Rattle.drawing.proofs.draw_path.Statement.{statement}
@@ -20,53 +19,14 @@ step-requires c κs = search needs
 held-requires : tie.Need-held-requires
 held-requires c κs = search needs
 
-slice-aggregate-draw-through : tie.Need-slice-aggregate-draw-through
-slice-aggregate-draw-through c = search needs
-
-draw-through-requires : tie.Need-draw-through-requires
-draw-through-requires c κs = search needs
+draw-sized-requires : tie.Need-draw-sized-requires
+draw-sized-requires c κs = search needs
 
 same-length : tie.Need-same-length
 same-length c = search needs
 
 returns-2 : tie.Need-returns-2
 returns-2 c = search needs
-
-slice-aggregate-draw-through-2 : tie.Need-slice-aggregate-draw-through-2
-slice-aggregate-draw-through-2 c = search needs
-
-draw-through-requires-2 : tie.Need-draw-through-requires-2
-draw-through-requires-2 c κs = search needs
-
-same-length-2 : tie.Need-same-length-2
-same-length-2 c = search needs
-
-returns-3 : tie.Need-returns-3
-returns-3 c = search needs
-
-slice-aggregate-draw-through-3 : tie.Need-slice-aggregate-draw-through-3
-slice-aggregate-draw-through-3 c = search needs
-
-draw-through-requires-3 : tie.Need-draw-through-requires-3
-draw-through-requires-3 c κs = search needs
-
-same-length-3 : tie.Need-same-length-3
-same-length-3 c = search needs
-
-returns-4 : tie.Need-returns-4
-returns-4 c = search needs
-
-slice-aggregate-draw-through-4 : tie.Need-slice-aggregate-draw-through-4
-slice-aggregate-draw-through-4 c = search needs
-
-draw-through-requires-4 : tie.Need-draw-through-requires-4
-draw-through-requires-4 c κs = (c .before .before .before .before .before .before .before .before .before .before .pre, omega (arith, c .before .before .before .before .before .before .before .before .before .if1 .left), search needs, c .before .before .before .before .before .before .step .ensures)
-
-same-length-4 : tie.Need-same-length-4
-same-length-4 c = search needs
-
-returns-5 : tie.Need-returns-5
-returns-5 c = search needs
 
 pub draw-path-spec : {M : Type 1} → statement M
 draw-path-spec =
@@ -77,19 +37,6 @@ draw-path-spec =
     folds-requires
     step-requires
     held-requires
-    slice-aggregate-draw-through
-    draw-through-requires
+    draw-sized-requires
     same-length
-    returns-2
-    slice-aggregate-draw-through-2
-    draw-through-requires-2
-    same-length-2
-    returns-3
-    slice-aggregate-draw-through-3
-    draw-through-requires-3
-    same-length-3
-    returns-4
-    slice-aggregate-draw-through-4
-    draw-through-requires-4
-    same-length-4
-    returns-5)
+    returns-2)

@@ -1,6 +1,6 @@
 -- `explaining::list_stroke` meets its contract: a kerb is refused, and of a stroke the edges are listed. Assumes nothing.
 use borrow.Author.Needs.{needs}
-use Rattle.explaining.proofs.Answers.{path-held, lists-other, lists-passed}
+use Rattle.explaining.proofs.Answers.{path-held, edges-held, lists-other, lists-passed}
 use Rattle.explaining.proofs.list_stroke.Statement.{statement}
 use Rattle.explaining.proofs.list_stroke.Tie as tie
 
@@ -11,7 +11,7 @@ enum-told-2 : tie.Need-enum-told-2
 enum-told-2 c = search needs
 
 list-in-requires : tie.Need-list-in-requires
-list-in-requires c κs = path-held (c .before .before .before .before .before .pre) (c .before .enum-told2 .given .1)
+list-in-requires c κs = (path-held (c .before .before .before .before .before .pre) (c .before .enum-told2 .given .1), edges-held (c .before .before .before .before .before .pre) (c .before .enum-told2 .given .1))
 
 returns : tie.Need-returns
 returns c = lists-other (c .before .before .before .before .pre) _ (c .enum-told .given .1)

@@ -1,12 +1,13 @@
 -- `explaining::list_with` meets its contract: a refusal is that of the shared rows; else the store's path is listed. Assumes nothing.
 use borrow.Author.Needs.{needs}
-use Rattle.editing.proofs.KnownStore.{passed}
+use Rattle.checking.proofs.KnownStore.{passed}
+use Rattle.checking.proofs.StoreRooms.{many-path, many-own}
 use Rattle.explaining.proofs.Answers.{lists-refused}
 use Rattle.explaining.proofs.list_with.Statement.{statement}
 use Rattle.explaining.proofs.list_with.Tie as tie
 
 check-requires : tie.Need-check-requires
-check-requires c κs = search needs
+check-requires c κs = (many-path (c .before .before .before .before .args .store .now) (search needs), many-own (c .before .before .before .before .args .store .now) (search needs))
 
 enum-known-checked : tie.Need-enum-known-checked
 enum-known-checked c = search needs

@@ -5,7 +5,7 @@ use native.Mathlib.Omega.{arith}
 use Rattle.folds.proofs.Laid.{lays-plain}
 use Rattle.kerb_paths.specs.Points.{kerbPath, wayOf}
 use Rattle.outline.proofs.OwnNumbers.{own-room, own-inside, own-small}
-use Rattle.kerb_outline.proofs.PieceRoom.{piece-few, entry-fits, words-fit, count-fits}
+use Rattle.kerb_outline.proofs.PieceRoom.{piece-few, piece-own, entry-fits, words-fit, count-fits}
 use Rattle.kerb_comparing.proofs.KerbComparisons.{piece-agrees}
 use Rattle.kerb_comparing.proofs.compare_piece.Statement.{statement}
 use Rattle.kerb_comparing.proofs.compare_piece.Tie as tie
@@ -14,7 +14,7 @@ piece-requires : tie.Need-piece-requires
 piece-requires c κs = ((c .before .before .before .pre .0 .0, c .before .before .before .pre .0 .1, c .before .before .before .pre .0 .3), own-room (piece-few (c .before .before .before .args .t) (c .before .before .before .args .y) (wayOf (c .before .before .before .args .y) (kerbPath (c .before .before .before .args .y .radius) (c .before .before .before .args .points .now))) (c .before .before .before .args .c .tour)))
 
 same-numbers-requires : tie.Need-same-numbers-requires
-same-numbers-requires c κs = (own-inside (piece-few (c .before .before .before .before .before .before .before .args .t) (c .before .before .before .before .before .before .before .args .y) (wayOf (c .before .before .before .before .before .before .before .args .y) (kerbPath (c .before .before .before .before .before .before .before .args .y .radius) (c .before .before .before .before .before .before .before .args .points .now))) (c .before .before .before .before .before .before .before .args .c .tour)) (lays-plain refl (c .before .before .before .piece .ensures .made)) (c .before .before .before .before .before .before .before .pre .0 .2), words-fit (c .before .before .before .before .before .before .before .args .t) (c .before .before .before .before .before .before .before .args .y) (kerbPath (c .before .before .before .before .before .before .before .args .y .radius) (c .before .before .before .before .before .before .before .args .points .now)) (c .before .before .before .before .before .before .before .args .c .tour) (c .before .before .before .before .before .before .before .pre .1 .0) (c .before .before .before .before .before .before .before .pre .1 .1) (lays-plain refl (c .before .before .before .piece .ensures .made)))
+same-numbers-requires c κs = (own-inside (piece-few (c .before .before .before .before .before .before .before .args .t) (c .before .before .before .before .before .before .before .args .y) (wayOf (c .before .before .before .before .before .before .before .args .y) (kerbPath (c .before .before .before .before .before .before .before .args .y .radius) (c .before .before .before .before .before .before .before .args .points .now))) (c .before .before .before .before .before .before .before .args .c .tour)) (lays-plain refl (c .before .before .before .piece .ensures .made)) (piece-own (c .before .before .before .before .before .before .before .args .t) (c .before .before .before .before .before .before .before .args .y) (wayOf (c .before .before .before .before .before .before .before .args .y) (kerbPath (c .before .before .before .before .before .before .before .args .y .radius) (c .before .before .before .before .before .before .before .args .points .now))) (c .before .before .before .before .before .before .before .args .c .tour) (c .before .before .before .before .before .before .before .pre .0 .2)), words-fit (c .before .before .before .before .before .before .before .args .t) (c .before .before .before .before .before .before .before .args .y) (kerbPath (c .before .before .before .before .before .before .before .args .y .radius) (c .before .before .before .before .before .before .before .args .points .now)) (c .before .before .before .before .before .before .before .args .c .tour) (c .before .before .before .before .before .before .before .pre .1 .0) (c .before .before .before .before .before .before .before .pre .1 .1) (lays-plain refl (c .before .before .before .piece .ensures .made)))
 
 mul-at : tie.Need-mul-at
 mul-at c = omega (arith, own-small (piece-few (c .before .before .before .before .before .before .before .before .args .t) (c .before .before .before .before .before .before .before .before .args .y) (wayOf (c .before .before .before .before .before .before .before .before .args .y) (kerbPath (c .before .before .before .before .before .before .before .before .args .y .radius) (c .before .before .before .before .before .before .before .before .args .points .now))) (c .before .before .before .before .before .before .before .before .args .c .tour)) (lays-plain refl (c .before .before .before .before .piece .ensures .made)))

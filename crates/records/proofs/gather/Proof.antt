@@ -48,9 +48,8 @@ use denote.Triple.Clauses.{ensured, lasts}
 use denote.Triple.Table.{entered, cited}
 use denote.Triple.Walked.{says, needs, Stays, stay-none-slice, stay-none, stay-slice, walkOf, Walks, ends-at, walked, goes-none-slice, goes-none, goes-slice, walk-meets}
 use denote.Exit.{yes}
-use Rattle.runs.specs.Runs.{spread, over, put}
 use Rattle.records.specs.declared.Record.{Record}
-use Rattle.records.specs.Records.{recordNumbers}
+use Rattle.records.specs.Records.{PutsRecord, Gathers}
 use Rattle.records.proofs.Again.{LentAgain, lends-again, comes-back}
 use Rattle.records.proofs.Gathered.{origin, gathered-none, gathered-more}
 use Rattle.records.proofs.Record as R
@@ -82,29 +81,21 @@ ty-of (local τ h) = τ
 abbrev tyAt : ℕ → Ty
 tyAt k = ty-of (getD text.locals k (local tyBool valueLocal))
 
--- the numbers with so many records gathered
-abbrev Holding : List Record → List ℤ → ℕ → List ℤ → Type 0
-Holding path numbers i l = l ≡ over put numbers 0 (spread recordNumbers (take i path))
-
 -- where the loop is: i records are gathered
 record Place (path : List Record) (m : ℕ) (numbers : List ℤ) : Type 0 where
   i : ℕ
   in-path : i ≤ m
   zs : List ℤ
   same : length zs ≡ length numbers
-  holding : Holding path numbers i zs
+  holding : Gathers numbers m (take i path) zs
 
--- an element's offset, 12 bytes for each one before it
-scaled : (i n : ℕ) → i < n → n * 12 < 2 ^ 63 → i * 12 < 2 ^ 64
+-- an element's offset, 16 bytes for each one before it
+scaled : (i n : ℕ) → i < n → n * 16 < 2 ^ 63 → i * 16 < 2 ^ 64
 scaled i n l h = omega arith
-
--- the numbers that the next record takes
-placed : (i m n : ℕ) → i < m → 3 * m ≤ n → 3 * i + 3 ≤ n
-placed i m n l h = omega arith
 
 module _ {M : Type 1} (𝓤 : URA M) (H : Heap 𝓤) (A : Atoms 𝓤) (W : Given 𝓤 H A) (mem : Memory → SProp 𝓤) (go : Routine → Fun 𝓤) (κ κ₁ : Lft) (q q₁ : Share)
     (b o : ℕ) (γ : GName) (ys : List Record) (m : ℕ) (b₁ o₁ : ℕ) (γ₁ : GName) (os : List ℤ) (m-fits : m < 2 ^ 64) (room : Room R.the-row (length ys)) (room₁ : Room i32 (length os))
-    (within : m ≤ length ys) (enough : 3 * m ≤ length os) where
+    (within : m ≤ length ys) (enough : 4 * m ≤ length os) where
   abbrev x : RefT (List Record)
   x = record { ptr = (b, o); name = γ; now = ys }
 
@@ -136,7 +127,7 @@ module _ {M : Type 1} (𝓤 : URA M) (H : Heap 𝓤) (A : Atoms 𝓤) (W : Given
   abbrev Numbers : List ℤ → Item 𝓤
   Numbers zs = ‵ (MutSlice (named 1) κ₁ i32 .own (y γ₁ zs) (sv (length os) ∷ []))
 
-  exits : (zs : List ℤ) → length zs ≡ length os → Holding ys os m zs → ent 𝓤 (⋆ 𝓤 H A (Path ∷ Numbers zs ∷ ‵ (flft κ q) ∷ ‵ (flft κ₁ q₁) ∷ [])) (Post vunit)
+  exits : (zs : List ℤ) → length zs ≡ length os → Gathers os m (take m ys) zs → ent 𝓤 (⋆ 𝓤 H A (Path ∷ Numbers zs ∷ ‵ (flft κ q) ∷ ‵ (flft κ₁ q₁) ∷ [])) (Post vunit)
   exits zs same e =
       qed W (Path ∷ Numbers zs ∷ ‵ (flft κ q) ∷ ‵ (flft κ₁ q₁) ∷ []) ∵
       suffices ! _ (ends-at 𝓤 H A gather.ended stayed (gather.clauses 𝓤 H A mem go) W (((κ, (κ₁, tt)), (q, (q₁, tt)), tt, a, at), tt) vunit tt (tt, (tt, (zs, tt))) (tt, (tt, (same, tt)))) $ says ! e $
@@ -146,13 +137,13 @@ module _ {M : Type 1} (𝓤 : URA M) (H : Heap 𝓤) (A : Atoms 𝓤) (W : Given
 
   -- what `put_record`'s triple binds outside: the numbers lent again for the lifetime ν, under the name δ
   abbrev to-put : ℕ → GName → ℕ → Record → List ℤ → Put 𝓤 H A mem go .Ghost
-  to-put ν δ i v zs = (((ν ∷ [], tt), (fullShare, tt), tt, (y δ zs, (i, (v, tt))), (sv (length zs) ∷ [], (vint w64 i ∷ [], (mach v ∷ [], tt)))), tt)
+  to-put ν δ i v zs = (((ν ∷ [], tt), (fullShare, tt), tt, (y δ zs, (m, (i, (v, tt)))), (sv (length zs) ∷ [], (vint w64 m ∷ [], (vint w64 i ∷ [], (mach v ∷ [], tt))))), tt)
 
-  goes : (ν : ℕ) (δ : GName) (i : ℕ) (v : Record) (zs : List ℤ) → i < 2 ^ 64 → Is R.the-row v (mach v ∷ []) → 3 * i + 3 ≤ length zs
+  goes : (ν : ℕ) (δ : GName) (i : ℕ) (v : Record) (zs : List ℤ) → i < 2 ^ 64 → Is R.the-row v (mach v ∷ []) → (i < m) × (4 * m ≤ length zs)
       → ent 𝓤 (sep 𝓤 (A .lft (ν ∷ []) fullShare) (sem 𝓤 H A (MutSlice (named 0) (ν ∷ []) i32 .own (y δ zs) (sv (length zs) ∷ [])))) (Put 𝓤 H A mem go .pre (to-put ν δ i v zs))
   goes ν δ i v zs fits v-is fit =
       qed W (‵ (flft (ν ∷ []) fullShare) ∷ ‵ (MutSlice (named 0) (ν ∷ []) i32 .own (y δ zs) (sv (length zs) ∷ [])) ∷ []) ∵ says ! fit $ nothing ! $ move ! (1 ∷ 0 ∷ []) $ join ! $ frame ! $
-      nothing ! $ owned ! R.the-row (Is R.the-row) (LL.makes R.the-type R′.the-plain 𝓤 H A) v _ v-is $ fjoin ! $ owned ! usize (Is usize) (uint-makes 𝓤 H A W w64) i _ (refl, fits) $ fjoin ! $ move ! (1 ∷ 0 ∷ []) $ fjoin ! $ done !
+      nothing ! $ owned ! R.the-row (Is R.the-row) (LL.makes R.the-type R′.the-plain 𝓤 H A) v _ v-is $ fjoin ! $ owned ! usize (Is usize) (uint-makes 𝓤 H A W w64) i _ (refl, fits) $ fjoin ! $ owned ! usize (Is usize) (uint-makes 𝓤 H A W w64) m _ (refl, m-fits) $ fjoin ! $ move ! (1 ∷ 0 ∷ []) $ fjoin ! $ done !
 
   abbrev P : Type 0
   P = Place ys m os
@@ -208,7 +199,7 @@ module _ {M : Type 1} (𝓤 : URA M) (H : Heap 𝓤) (A : Atoms 𝓤) (W : Given
             returns ! (look ! 26 refl) $ forget ! 16 refl $ forget ! 18 refl $ forget ! 20 refl $ forget ! 22 refl $ forget ! 24 refl $ forget ! 26 refl $
             move ! (26 ∷ 27 ∷ []) $ free1 ! $ move ! (24 ∷ 25 ∷ []) $ free1 ! $ move ! (22 ∷ 23 ∷ []) $ free1 ! $ move ! (20 ∷ 21 ∷ []) $ free1 ! $ move ! (18 ∷ 19 ∷ []) $ free1 ! $ move ! (16 ∷ 17 ∷ []) $ free1 ! $
             move ! (14 ∷ 15 ∷ []) $ free1 ! $ move ! (12 ∷ 13 ∷ []) $ free1 ! $ move ! (10 ∷ 11 ∷ []) $ free1 ! $ move ! (8 ∷ 9 ∷ []) $ free1 ! $ move ! (6 ∷ 7 ∷ []) $ free1 ! $ move ! (4 ∷ 5 ∷ []) $ free1 ! $ free0 ! $
-            by ! (exits (p .zs) (p .same) (p .holding ∙ ap (λ (k : ℕ). over put os 0 (spread recordNumbers (take k ys))) (le-antisymm (p .in-path) (ltb-false (p .i) m e))))
+            by ! (exits (p .zs) (p .same) (subst (λ (k : ℕ). Gathers os m (take k ys) (p .zs)) (le-antisymm (p .in-path) (ltb-false (p .i) m e)) (p .holding)))
         dec true e =
             assigns ! (bin ! (load ! (from ! (stop !)) (look ! 18 refl)) (load ! (from ! (stop !)) (look ! 22 refl)) tt) (from ! (stop !)) (init ! 16 refl (tt, tt)) $
             rewrite ! 16 (λ (c : Bool). ‵ (fat fullShare (tyAt 5) l₅ 0 (vbool c))) e refl $
@@ -217,7 +208,7 @@ module _ {M : Type 1} (𝓤 : URA M) (H : Heap 𝓤) (A : Atoms 𝓤) (W : Given
             assigns ! (agg ! (and-then ! (load ! (from ! (stop !)) (look ! 12 refl)) (and-then ! (load ! (from ! (fld ! refl (stop !))) (look-in ! 20 (sub ! 1 refl (whole !)))) (no-more !)))) (from ! (stop !)) (init ! 10 refl (tt, (tt, (record { fits = room₁ .0 }, tt)))) $
             assigns ! (bin ! (load ! (from ! (stop !)) (look ! 18 refl)) (lit ! tt) (record { fits = off })) (from ! (stop !)) (init ! 8 refl (tt, record { fits = off })) $
             assigns ! (bin ! (load ! (from ! (fld ! refl (stop !))) (look-in ! 24 (sub ! 0 refl (whole !)))) (load ! (from ! (stop !)) (look ! 8 refl)) tt) (from ! (stop !)) (init ! 6 refl (tt, tt)) $
-            rewrite ! 6 (λ (n : ℕ). ‵ (fat fullShare (tyAt 10) m₀ 0 (vptr b n))) (sym (place-is 12 o (p .i))) refl $
+            rewrite ! 6 (λ (n : ℕ). ‵ (fat fullShare (tyAt 10) m₀ 0 (vptr b n))) (sym (place-is 16 o (p .i))) refl $
             -- the path's borrow is looked into, and the record is copied
             fsplit ! $ move ! (1 ∷ []) $ fsplit ! $ move ! (1 ∷ 4 ∷ []) $
             looks-slice ! tt R.the-row (Is R.the-row) (shows 𝓤 H A R.the-row) (LL.vals R.the-type R′.the-laws) (LL.tells R.the-type R′.the-laws) ((LL.copy R.the-type R′.the-copy) 𝓤 H A W) ys b o (λ q′.
@@ -231,13 +222,13 @@ module _ {M : Type 1} (𝓤 : URA M) (H : Heap 𝓤) (A : Atoms 𝓤) (W : Given
             lft-new ! tt (λ ν. move ! (3 ∷ 4 ∷ []) $
             use2 W (later (some (λ (δ : GName). ‵ (MutSlice (named 0) (ν ∷ []) i32 .own (y δ (p .zs)) (sv (length (p .zs)) ∷ [])) ⊛ ‵ (LentAgain i32 κ₁ (ν ∷ []) q₁ γ₁ b₁ o₁ δ (p .zs)))))
             (lends-again i32 κ₁ (ν ∷ []) q₁ γ₁ b₁ o₁ 𝓤 H A W (named 1) (named 0) (p .zs)) $ await ! tt $ pick ! (λ δ. split ! $
-            move ! (2 ∷ 0 ∷ []) $ use2 W (raw (Put 𝓤 H A mem go .pre (to-put ν δ (p .i) v (p .zs)))) (goes ν δ (p .i) v (p .zs) i-fits g (subst (λ (n : ℕ). 3 * p .i + 3 ≤ n) (sym (p .same)) (placed (p .i) m (length os) less enough))) $
+            move ! (2 ∷ 0 ∷ []) $ use2 W (raw (Put 𝓤 H A mem go .pre (to-put ν δ (p .i) v (p .zs)))) (goes ν δ (p .i) v (p .zs) i-fits g (less, subst (λ (n : ℕ). 4 * m ≤ n) (sym (p .same)) enough)) $
             calls-at ! (fmOf 𝓤 H (W .laws) 𝓣) (Put 𝓤 H A mem go) known (to-put ν δ (p .i) v (p .zs))
-            (and-then ! (load ! (from ! (stop !)) (look ! 10 refl)) (and-then ! (load ! (from ! (stop !)) (look ! 18 refl)) (and-then ! (load ! (from ! (stop !)) (look ! 4 refl)) (no-more !)))) (λ w.
-            use1 W (later (some (λ (r : Unit {0}). ((‵ (flft (ν ∷ []) fullShare) ⊛ ‵ ftrue) ⊛ ‵ (unit .own r (w ∷ []))) ⊛ raw (ensured 𝓤 H A put-record.ended (put-record.clauses 𝓤 H A mem go) (ν ∷ [], tt) (y δ (p .zs), (p .i, (v, tt))) tt r)))) (id⊢ 𝓤 _) $ await ! tt $ pick ! (λ r.
+            (and-then ! (load ! (from ! (stop !)) (look ! 10 refl)) (and-then ! (load ! (from ! (stop !)) (look ! 22 refl)) (and-then ! (load ! (from ! (stop !)) (look ! 18 refl)) (and-then ! (load ! (from ! (stop !)) (look ! 4 refl)) (no-more !))))) (λ w.
+            use1 W (later (some (λ (r : Unit {0}). ((‵ (flft (ν ∷ []) fullShare) ⊛ ‵ ftrue) ⊛ ‵ (unit .own r (w ∷ []))) ⊛ raw (ensured 𝓤 H A put-record.ended (put-record.clauses 𝓤 H A mem go) (ν ∷ [], tt) (y δ (p .zs), (m, (p .i, (v, tt)))) tt r)))) (id⊢ 𝓤 _) $ await ! tt $ pick ! (λ r.
             split ! $ move ! (1 ∷ []) $
-            use1 W (some (λ (ws : List ℤ × (Unit {0} × (Unit {0} × Unit {0}))). ‵ (lasts put-record.ended (ν ∷ [], tt) (y δ (p .zs), (p .i, (v, tt))) ws) ⊛ raw (fact 𝓤 (ws .0 ≡ over put (p .zs) (3 * p .i) (recordNumbers v))))) (id⊢ 𝓤 _) $ pick ! (λ ws.
-            split ! $ move ! (1 ∷ []) $ heard ! (ws .0 ≡ over put (p .zs) (3 * p .i) (recordNumbers v)) (λ said.
+            use1 W (some (λ (ws : List ℤ × (Unit {0} × (Unit {0} × (Unit {0} × Unit {0})))). ‵ (lasts put-record.ended (ν ∷ [], tt) (y δ (p .zs), (m, (p .i, (v, tt)))) ws) ⊛ raw (fact 𝓤 (PutsRecord (p .zs) m (p .i) v (ws .0))))) (id⊢ 𝓤 _) $ pick ! (λ ws.
+            split ! $ move ! (1 ∷ []) $ heard ! (PutsRecord (p .zs) m (p .i) v (ws .0)) (λ said.
             fsplit ! $ fsplit ! $ move ! (1 ∷ []) $ feqL ! (λ long.
             move ! (2 ∷ []) $ split ! $ move ! (1 ∷ []) $ peeks ! unit (Is unit) (shows 𝓤 H A unit) r (w ∷ []) (λ is.
             -- [what r owns; the token of ν; the last list; true; what is lent; path; its token; _11; …]
@@ -255,7 +246,7 @@ module _ {M : Type 1} (𝓤 : URA M) (H : Heap 𝓤) (A : Atoms 𝓤) (W : Given
               in-path = add-one-le less;
               zs = ws .0;
               same = long ∙ p .same;
-              holding = gathered-more os ys (p .i) inside (p .holding) said;
+              holding = gathered-more os m ys (p .i) less inside (p .holding) said;
             }) (add-one-dec m (p .i) less)))))))))))
           where
             less : p .i < m
@@ -267,7 +258,7 @@ module _ {M : Type 1} (𝓤 : URA M) (H : Heap 𝓤) (A : Atoms 𝓤) (W : Given
             v : Record
             v = getD ys (p .i) origin
 
-            off : p .i * 12 < 2 ^ 64
+            off : p .i * 16 < 2 ^ 64
             off = scaled (p .i) (length ys) inside (room .1)
 
             next-fits : p .i + 1 < 2 ^ 64
@@ -278,7 +269,7 @@ module _ {M : Type 1} (𝓤 : URA M) (H : Heap 𝓤) (A : Atoms 𝓤) (W : Given
     enters p = qed W (At p) ∵ exec ! C Λ En text.t-2 (atRet En Post) $ first ! $ blocks ! $ loops ! 𝓣 Nearer Nearer-wf At turns p
 
   abbrev start : P
-  start = record { i = 0; in-path = zero-le; zs = os; same = refl; holding = gathered-none os ys }
+  start = record { i = 0; in-path = zero-le; zs = os; same = refl; holding = gathered-none os m ys }
 
   walk : (𝓣 : Tables 𝓤 H) → Triple 𝓤 (𝓣 .C #records·put-record) (Put 𝓤 H A mem go) → ent 𝓤 (onEntry 𝓤 H A gather.signature (κ, (κ₁, tt)) (q, (q₁, tt)) a at)
       (WpFn 𝓤 H (𝓣 .C) (𝓣 .Λ) code.function (pv ∷ vint w64 m ∷ sv (length os) ∷ []) Post)
@@ -297,7 +288,7 @@ module _ {M : Type 1} (𝓤 : URA M) (H : Heap 𝓤) (A : Atoms 𝓤) (W : Given
   gather-walks : (𝓣 : Tables 𝓤 H) → Triple 𝓤 (𝓣 .C #records·put-record) (Put 𝓤 H A mem go) → Walks 𝓤 H A gather.ended stayed (WpFn 𝓤 H (𝓣 .C) (𝓣 .Λ) code.function) (gather.clauses 𝓤 H A mem go)
   gather-walks 𝓣 known = walked 𝓤 H A gather.ended stayed (gather.clauses 𝓤 H A mem go) (WpFn 𝓤 H (𝓣 .C) (𝓣 .Λ) code.function)
       (λ κs. (slice-vals, (uint-vals w64, (slice-vals, tt)))) (λ κs. (shr-slice-tells (named 0) (κs .0) R.the-row, (uint-tells w64, (mut-slice-tells (named 1) (κs .1 .0) i32, tt))))
-      (λ κs qs bounds a g are. needs 𝓤 ((a .1 .0 ≤ length (a .0 .now)) × (3 * a .1 .0 ≤ length (a .1 .1 .0 .now))) _ (λ asked.
+      (λ κs qs bounds a g are. needs 𝓤 ((a .1 .0 ≤ length (a .0 .now)) × (4 * a .1 .0 ≤ length (a .1 .1 .0 .now))) _ (λ asked.
       walk 𝓤 H A W mem go (κs .0) (κs .1 .0) (qs .0) (qs .1 .0) (a .0 .ptr .0) (a .0 .ptr .1) (a .0 .name) (a .0 .now) (a .1 .0) (a .1 .1 .0 .ptr .0) (a .1 .1 .0 .ptr .1) (a .1 .1 .0 .name) (a .1 .1 .0 .now) (are .1 .0 .1) (are .0 .0 .1) (are .1 .1 .0 .0 .1) (asked .0) (asked .1) 𝓣 known))
 
 gather-meets : {M : Type 1} (𝓤 : URA M) (H : Heap 𝓤) (A : Atoms 𝓤) → Given 𝓤 H A → (mem : Memory → SProp 𝓤) (go : Routine → Fun 𝓤) (𝓣 : Tables 𝓤 H) → Triple 𝓤 (𝓣 .C #records·put-record) (Put 𝓤 H A mem go)

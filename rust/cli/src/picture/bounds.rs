@@ -9,14 +9,18 @@ use std::iter::zip;
 
 /// The frame of both sheets.
 pub fn of_all(shown: Shown) -> Option<Frame> {
-    let frames = [shown.before, shown.after].map(of_sheet);
-    together(frames.into_iter().flatten())
+    together(framed(shown).filter_map(of_sheet))
 }
 
 /// The frame of what differs, as it was and as it is.
 pub fn of_changed(shown: Shown) -> Option<Frame> {
-    let frames = [shown.before, shown.after].map(|sheet| of_marked(sheet, shown.changes));
-    together(frames.into_iter().flatten())
+    together(framed(shown).filter_map(|sheet| of_marked(sheet, shown.changes)))
+}
+
+/// The sheets that a frame must hold: of a spoiled one what lies within it is shown.
+fn framed(shown: Shown<'_>) -> impl Iterator<Item = &Sheet> {
+    let sheets = [shown.before, shown.after].into_iter();
+    sheets.filter(|sheet| sheet.is_sound())
 }
 
 /// The frame of a sheet.

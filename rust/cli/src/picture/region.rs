@@ -223,7 +223,7 @@ mod tests {
     #[test]
     fn loops_have_each_edge_once() {
         let mut below = numbers();
-        for grade in 1..=8 {
+        for grade in 2..=8 {
             let vertex = |_| [below(900), below(900), 2 + below(90)];
             let path: Vec<[i32; 3]> = (0..40).map(vertex).collect();
             let sheet = calls::keep(path.as_flattened(), grade).unwrap();

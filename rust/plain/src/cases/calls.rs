@@ -150,18 +150,23 @@ fn edit_case(grade: u32, edit: &Edit, path: &[i32]) -> String {
 pub fn fixed() -> Vec<String> {
     let mut cases = Vec::new();
     for path in EXAMPLES {
-        each_call(&mut cases, path, 1);
+        drawn(&mut cases, path, 2);
+        stored(&mut cases, path, 1);
+        stored(&mut cases, path, 2);
     }
     for path in READINGS {
-        each_call(&mut cases, path, 1);
+        drawn(&mut cases, path, 2);
+        stored(&mut cases, path, 1);
+        stored(&mut cases, path, 2);
         let path = flat(path);
-        for grade in [2, 5, 8] {
+        for grade in [3, 5, 8] {
             cases.push(draw_case(grade, needed_numbers(&path, grade), &path));
             cases.push(keep_case(grade, needed(&path, grade), &path));
         }
     }
     refused_paths(&mut cases);
     paths_without_edges(&mut cases);
+    retired_grade(&mut cases);
     for edition in EDITIONS {
         refused_stores(&mut cases, edition);
     }
@@ -174,8 +179,8 @@ pub fn fixed() -> Vec<String> {
     cases
 }
 
-/// A path as draw, keep and store cases, with room exact and one short.
-fn each_call(cases: &mut Vec<String>, path: &[Triple], grade: u32) {
+/// A path as draw and keep cases, with room exact and one short.
+fn drawn(cases: &mut Vec<String>, path: &[Triple], grade: u32) {
     let path = flat(path);
     let room = needed_numbers(&path, grade);
     cases.push(draw_case(grade, room, &path));
@@ -193,9 +198,21 @@ fn each_call(cases: &mut Vec<String>, path: &[Triple], grade: u32) {
         vertex: [1, -1, 3],
     };
     cases.push(edit_case(grade, &edit, &path));
-    if room == 0 {
+}
+
+/// Whether all vertices of a path lie inside the limits.
+fn inside(path: &[Triple]) -> bool {
+    let allowed = |&[x, y, r]: &Triple| Vertex::new(x as i64, y as i64, r as i64).allowed();
+    path.iter().all(allowed)
+}
+
+/// The outlines of a path as read and replace cases; at grade 1 they are still
+/// read.
+fn stored(cases: &mut Vec<String>, path: &[Triple], grade: u32) {
+    if !inside(path) {
         return;
     }
+    let path = flat(path);
     for edition in EDITIONS {
         let store = kept(edition, &path, grade);
         cases.push(read_case(path.len(), &store));
@@ -215,34 +232,38 @@ fn each_call(cases: &mut Vec<String>, path: &[Triple], grade: u32) {
 /// Each refusal of draw and keep, alone and before those that come later.
 fn refused_paths(cases: &mut Vec<String>) {
     let (past, short) = (MOST + 1, -MOST - 1);
-    let paths: [(&[i32], u32); 28] = [
-        (&[0], 1),
-        (&[0, 0], 1),
-        (&[0, 0, 10, 7], 1),
+    let paths: [(&[i32], u32); 32] = [
+        (&[0], 2),
+        (&[0, 0], 2),
+        (&[0, 0, 10, 7], 2),
         (&[0, 0, 10, 7, 7], 0),
         (&[past, 0, 10, 7], 9),
         (&[], 0),
         (&[], 9),
+        (&[], 1),
+        (&[0, 0, 10], 1),
+        (&[past, 0, 10], 1),
+        (&[0, 0, 10, 7], 1),
         (&[0, 0, 10], 0),
         (&[0, 0, 10], 9),
         (&[0, 0, 10], 256),
         (&[0, 0, 10], 257),
         (&[0, 0, 10], u32::MAX),
         (&[past, 0, 10], 9),
-        (&[past, 0, 10], 1),
-        (&[short, 0, 10], 1),
-        (&[0, past, 10], 1),
-        (&[0, short, 10], 1),
-        (&[0, 0, past], 1),
-        (&[0, 0, -1], 1),
-        (&[i32::MIN, 0, 0], 1),
-        (&[0, i32::MAX, 0], 1),
-        (&[0, 0, i32::MAX], 1),
-        (&[0, 0, i32::MIN], 1),
-        (&[0, 0, 10, past, 0, 10], 1),
-        (&[0, 0, 10, 50, 0, -1, past, 0, 0], 1),
-        (&[MOST, -MOST, MOST], 1),
-        (&[-MOST, MOST, MOST, MOST, -MOST, MOST], 1),
+        (&[past, 0, 10], 2),
+        (&[short, 0, 10], 2),
+        (&[0, past, 10], 2),
+        (&[0, short, 10], 2),
+        (&[0, 0, past], 2),
+        (&[0, 0, -1], 2),
+        (&[i32::MIN, 0, 0], 2),
+        (&[0, i32::MAX, 0], 2),
+        (&[0, 0, i32::MAX], 2),
+        (&[0, 0, i32::MIN], 2),
+        (&[0, 0, 10, past, 0, 10], 2),
+        (&[0, 0, 10, 50, 0, -1, past, 0, 0], 2),
+        (&[MOST, -MOST, MOST], 2),
+        (&[-MOST, MOST, MOST, MOST, -MOST, MOST], 2),
         (&[-MOST, MOST, 0, MOST, -MOST, MOST, 0, 0, MOST], 8),
     ];
     for (path, grade) in paths {
@@ -256,22 +277,23 @@ fn refused_paths(cases: &mut Vec<String>) {
 /// Paths of radius 0 and 1, alone and with each other fault, in rooms that
 /// their outlines fit and do not fit.
 fn paths_without_edges(cases: &mut Vec<String>) {
-    let paths: [(&[i32], u32); 16] = [
-        (&[0, 0, 0], 1),
+    let paths: [(&[i32], u32); 17] = [
+        (&[0, 0, 0], 2),
         (&[7, -7, 1], 8),
         (&[0, 0, 1, 20, 0, 1], 2),
-        (&[0, 0, 0, 20, 0, 0], 1),
-        (&[0, 0, 1, 1, 0, 0], 1),
-        (&[0, 0, 0, 1, 0, 1], 1),
-        (&[3, 4, 1, 3, 4, 1], 1),
-        (&[3, 4, 1, 3, 4, 0, 3, 4, 1], 1),
+        (&[0, 0, 0, 20, 0, 0], 2),
+        (&[0, 0, 1, 1, 0, 0], 2),
+        (&[0, 0, 0, 1, 0, 1], 2),
+        (&[3, 4, 1, 3, 4, 1], 2),
+        (&[3, 4, 1, 3, 4, 0, 3, 4, 1], 2),
         (&[-MOST, MOST, 1, MOST, -MOST, 0, 0, 0, 1], 5),
-        (&[0, 0, 1, 20, 0, 2], 1),
-        (&[0, 0, 0, 20, 0, -1], 1),
-        (&[MOST + 1, 0, 1], 1),
+        (&[0, 0, 1, 20, 0, 2], 2),
+        (&[0, 0, 0, 20, 0, -1], 2),
+        (&[MOST + 1, 0, 1], 2),
+        (&[0, 0, 1, 20, 0, 1], 1),
         (&[0, 0, 1, 20, 0, 1], 0),
         (&[0, 0, 1, 20, 0, 1], 9),
-        (&[0, 0, 1, 20], 1),
+        (&[0, 0, 1, 20], 2),
         (&[0, 0, 1, MOST + 1, 0], 9),
     ];
     for (path, grade) in paths {
@@ -283,10 +305,10 @@ fn paths_without_edges(cases: &mut Vec<String>) {
     }
     let thin = [0, 0, 1].repeat(4097);
     for path in [&thin, &thin[3..], &thin[1..]] {
-        cases.push(draw_case(1, 0, path));
-        cases.push(keep_case(1, 0, path));
+        cases.push(draw_case(2, 0, path));
+        cases.push(keep_case(2, 0, path));
     }
-    cases.push(keep_case(1, 24 + 20 * 4096, &thin[3..]));
+    cases.push(keep_case(2, 24 + 20 * 4096, &thin[3..]));
     // Replacements that leave none, and one that leaves some where none were.
     for path in [
         &[[0, 0, 2]][..],
@@ -295,7 +317,7 @@ fn paths_without_edges(cases: &mut Vec<String>) {
         &[[0, 0, 1], [9, 0, 1], [30, 0, 0]],
     ] {
         for edition in EDITIONS {
-            let store = kept(edition, &flat(path), 1);
+            let store = kept(edition, &flat(path), 2);
             let longer = [store.as_slice(), &[0xEE; 300]].concat();
             for index in 0..=path.len() as i64 {
                 for vertex in [[0, 0, 0], [9, 0, 1], [0, 0, 2], [0, 0, -1]] {
@@ -303,6 +325,28 @@ fn paths_without_edges(cases: &mut Vec<String>) {
                     cases.push(replace_case(index, vertex, &longer));
                 }
             }
+        }
+    }
+}
+
+/// Outlines of grade 1, which are read and not replaced: refused after every fault
+/// of the store, and before each of the index, the vertex, the edges and the
+/// room.
+fn retired_grade(cases: &mut Vec<String>) {
+    for path in [EXAMPLES[0], EXAMPLES[1], EXAMPLES[4], EXAMPLES[9]] {
+        for edition in EDITIONS {
+            let store = kept(edition, &flat(path), 1);
+            let mut unsound = store.clone();
+            *unsound.last_mut().expect("a store has bytes") ^= 1;
+            let longer = [store.as_slice(), &[0xEE; 400]].concat();
+            for index in [0, path.len() as i64, i64::MAX] {
+                for vertex in [[1, 2, 3], [0, 0, 1], [0, 0, -1], [MOST + 1, 0, 5]] {
+                    for store in [&store, &longer, &unsound] {
+                        cases.push(replace_case(index, vertex, store));
+                    }
+                }
+            }
+            cases.push(read_case(3 * path.len(), &longer));
         }
     }
 }
@@ -322,9 +366,9 @@ fn with_word(store: &[u8], place: usize, word: u32) -> Vec<u8> {
 /// come later.
 fn refused_stores(cases: &mut Vec<String>, edition: Edition) {
     let past = MOST as u32 + 1;
-    let sound = kept(edition, &[0, 0, 2, 30, 0, 5], 1);
-    let empty = kept(edition, &[], 1);
-    let lone = kept(edition, &[0, 0, 2], 1);
+    let sound = kept(edition, &[0, 0, 2, 30, 0, 5], 2);
+    let empty = kept(edition, &[], 2);
+    let lone = kept(edition, &[0, 0, 2], 2);
     let longer = [sound.as_slice(), &[0; 48]].concat();
     let edges = Header::of(&sound).edges;
     let (first, entry) = (edition as u32, edition.entry_words());
@@ -365,7 +409,7 @@ fn refused_stores(cases: &mut Vec<String>, edition: Edition) {
     for word in [1, 256, 1 << 31, u32::MAX] {
         stores.push(with_word(&sound, 1, word));
     }
-    for word in [0, 2, 8, 9, 257, u32::MAX] {
+    for word in [0, 1, 8, 9, 257, u32::MAX] {
         stores.push(with_word(&sound, 2, word));
     }
     for word in [0, 1, 3, 4096, 4097, 1 << 30, u32::MAX] {
@@ -475,7 +519,7 @@ fn kept_kerbs(cases: &mut Vec<String>) {
 fn changed_lengths(cases: &mut Vec<String>, edition: Edition) {
     let small = [0, 0, 1];
     let large = [0, 0, 10];
-    let (less, more) = (length(&small, 1), length(&large, 1));
+    let (less, more) = (length(&small, 2), length(&large, 2));
     for extra in [
         0,
         more - less - 1,
@@ -483,10 +527,10 @@ fn changed_lengths(cases: &mut Vec<String>, edition: Edition) {
         more - less + 1,
         more - less + 9,
     ] {
-        let store = [kept(edition, &small, 1), vec![0xEE; extra]].concat();
+        let store = [kept(edition, &small, 2), vec![0xEE; extra]].concat();
         cases.push(replace_case(0, large, &store));
     }
-    // From a circle to two sides and two half turns: 8 edges, then 10.
+    // From a circle to two sides and two half turns: 14 edges, then 16.
     for extra in [0, 31, 32, 33, 41] {
         let edit = Edit {
             extra,
@@ -495,10 +539,10 @@ fn changed_lengths(cases: &mut Vec<String>, edition: Edition) {
             index: 1,
             vertex: [20, 0, 5],
         };
-        cases.push(edit_case(1, &edit, &flat(EXAMPLES[8])));
+        cases.push(edit_case(2, &edit, &flat(EXAMPLES[8])));
     }
     for extra in [0, 1, 9] {
-        let store = [kept(edition, &large, 1), vec![0xEE; extra]].concat();
+        let store = [kept(edition, &large, 2), vec![0xEE; extra]].concat();
         cases.push(replace_case(0, small, &store));
         cases.push(replace_case(0, [5, 5, 2], &store));
         cases.push(replace_case(0, large, &store));
@@ -506,7 +550,7 @@ fn changed_lengths(cases: &mut Vec<String>, edition: Edition) {
     let path = flat(EXAMPLES[5]);
     for index in 0..3 {
         for vertex in [[20, 0, 5], [20, 5, 5], [0, 0, 0], [20, 0, 40], [21, 0, 1]] {
-            let store = [kept(edition, &path, 1), vec![0xEE; 100]].concat();
+            let store = [kept(edition, &path, 2), vec![0xEE; 100]].concat();
             cases.push(replace_case(index, vertex, &store));
         }
     }
@@ -516,7 +560,7 @@ fn changed_lengths(cases: &mut Vec<String>, edition: Edition) {
 fn each_byte_damaged(cases: &mut Vec<String>) {
     for (path, value) in [(EXAMPLES[1], 128), (EXAMPLES[4], 1), (EXAMPLES[3], 255)] {
         let path = flat(path);
-        for at in 0..needed(&path, 1) + 2 {
+        for at in 0..needed(&path, 2) + 2 {
             let edit = Edit {
                 extra: 2,
                 at: at as i64,
@@ -524,17 +568,18 @@ fn each_byte_damaged(cases: &mut Vec<String>) {
                 index: 0,
                 vertex: [1, 2, 3],
             };
-            cases.push(edit_case(1, &edit, &path));
+            cases.push(edit_case(2, &edit, &path));
         }
     }
-    for (path, value) in [
-        (EXAMPLES[0], 1),
-        (EXAMPLES[0], 255),
-        (EXAMPLES[3], 1),
-        (EXAMPLES[9], 255),
+    for (path, grade, value) in [
+        (EXAMPLES[0], 1, 1),
+        (EXAMPLES[0], 2, 255),
+        (EXAMPLES[3], 1, 1),
+        (EXAMPLES[3], 2, 1),
+        (EXAMPLES[9], 2, 255),
     ] {
         for edition in EDITIONS {
-            let store = kept(edition, &flat(path), 1);
+            let store = kept(edition, &flat(path), grade);
             for at in 0..store.len() {
                 let mut store = store.clone();
                 store[at] = store[at].wrapping_add(value);
@@ -553,15 +598,15 @@ fn many_vertices(cases: &mut Vec<String>) {
     };
     // Its outline has less than half a mebibyte, as much as the program that is
     // run on the list lends.
-    let small = path(4096, 9, 20);
+    let small = path(4096, 1, 20);
     let large = path(4096, 100_000_000, 20);
-    for grade in [1, 8] {
+    for grade in [2, 8] {
         cases.push(draw_case(grade, 0, &small));
         cases.push(draw_case(grade, 0, &large));
         cases.push(keep_case(grade, 0, &large));
     }
-    cases.push(draw_case(1, needed_numbers(&small, 1), &small));
-    cases.push(keep_case(1, needed(&small, 1), &small));
+    cases.push(draw_case(2, needed_numbers(&small, 2), &small));
+    cases.push(keep_case(2, needed(&small, 2), &small));
     cases.push(draw_case(8, 0, &path(4096, 100_000_000, 0)));
     let edit = Edit {
         extra: 500,
@@ -570,26 +615,27 @@ fn many_vertices(cases: &mut Vec<String>) {
         index: 4095,
         vertex: [0, 0, 77],
     };
-    cases.push(edit_case(1, &edit, &small));
+    cases.push(edit_case(2, &edit, &small));
     let past = path(4097, 10, 20);
     for (grade, path) in [
         (1, &past[..]),
+        (2, &past[..]),
         (8, &past[..]),
         (9, &past[..]),
-        (1, &past[1..]),
+        (2, &past[1..]),
     ] {
         cases.push(draw_case(grade, 0, path));
         cases.push(keep_case(grade, 0, path));
     }
     let mut outside = past.clone();
     outside[0] = MOST + 1;
-    cases.push(draw_case(1, 0, &outside));
+    cases.push(draw_case(2, 0, &outside));
     outside.truncate(3 * 4096);
-    cases.push(draw_case(1, 0, &outside));
+    cases.push(draw_case(2, 0, &outside));
     outside[0] = 0;
     outside[3 * 4095 + 2] = -1;
-    cases.push(draw_case(1, 0, &outside));
-    cases.push(keep_case(1, 0, &outside));
+    cases.push(draw_case(2, 0, &outside));
+    cases.push(keep_case(2, 0, &outside));
 }
 
 /// Most characters of a random case.
@@ -647,9 +693,9 @@ impl Maker {
 
     fn grade(&mut self) -> u32 {
         match self.random.below(100) {
-            0..35 => 1,
-            35..97 => self.random.between(1, 8) as u32,
-            _ => self.random.pick(&[0, 9, 255, 256, 257, u32::MAX]),
+            0..35 => 2,
+            35..95 => self.random.between(2, 8) as u32,
+            _ => self.random.pick(&[0, 1, 1, 9, 255, 256, 257, u32::MAX]),
         }
     }
 
@@ -850,8 +896,12 @@ impl Maker {
     /// its path.
     fn store(&mut self) -> (Vec<Triple>, u32, Vec<u8>) {
         loop {
-            let (path, grade) = (self.sound_path(), self.random.between(1, 8) as u32);
-            let grade = if self.random.chance(60) { 1 } else { grade };
+            let path = self.sound_path();
+            let grade = match self.random.below(100) {
+                0..15 => 1,
+                15..65 => 2,
+                _ => self.random.between(1, 8) as u32,
+            };
             let edition = self.random.pick(&EDITIONS);
             let numbers: Vec<u32> = path.iter().map(|_| self.number()).collect();
             let store = numbered(edition, &flat(&path), &numbers, grade);
@@ -1052,7 +1102,7 @@ impl Maker {
         self.turn += 1;
         let stores: Vec<Vec<u8>> = EDITIONS
             .iter()
-            .flat_map(|&edition| paths.map(|path| kept(edition, &flat(path), 1)))
+            .flat_map(|&edition| paths.map(|path| kept(edition, &flat(path), 2)))
             .collect();
         at %= stores.iter().map(Vec::len).sum::<usize>();
         let mut place = 0;
@@ -1069,8 +1119,8 @@ impl Maker {
             index: self.index(path.len() / 3),
             vertex: self.any_vertex(),
         };
-        if second && needed(&path, 1) > 0 {
-            return edit_case(1, &edit, &path);
+        if second && needed(&path, 2) > 0 {
+            return edit_case(2, &edit, &path);
         }
         let mut store = stores[place].clone();
         store[at] = store[at].wrapping_add(edit.value as u8);

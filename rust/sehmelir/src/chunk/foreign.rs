@@ -1,29 +1,7 @@
 //! The archive's calls of a chunk, as `include/sehmelir.h` declares them, on
 //! slices.
 
-use crate::foreign::{refused, Reply};
-use crate::Refusal;
-use std::ops::Range;
-
-/// `struct sehmelir_part`.
-#[repr(C)]
-pub struct Part {
-    reply: u32,
-    zero: u32,
-    number: u64,
-    offset: u64,
-    length: u64,
-}
-
-impl Part {
-    /// The bytes of the part, or the refusal.
-    pub fn range(&self) -> Result<Range<usize>, Refusal> {
-        match self.reply {
-            0 => Ok(self.offset as usize..(self.offset + self.length) as usize),
-            reply => Err(refused(reply, self.number)),
-        }
-    }
-}
+use crate::foreign::{Part, Reply};
 
 extern "C" {
     fn sehmelir_chunk_make(chunk: *mut u8, chunk_len: usize, entries: u32) -> Reply;

@@ -73,8 +73,8 @@ impl<B: AsRef<[u8]>> Chunk<B> {
     ///
     /// ```
     /// let mut chunk = sehmelir::Chunk::make([0; 300], 2)?;
-    /// chunk.add(7, &sehmelir::outline(&[0, 0, 10], 1)?)?;
-    /// assert_eq!(chunk.find(7), Ok(28..200));
+    /// chunk.add(7, &sehmelir::outline(&[0, 0, 10], 2)?)?;
+    /// assert_eq!(chunk.find(7), Ok(28..296));
     /// # Ok::<(), sehmelir::Refusal>(())
     /// ```
     ///
@@ -142,7 +142,7 @@ impl<B: AsRef<[u8]> + AsMut<[u8]>> Chunk<B> {
     ///
     /// ```
     /// let mut chunk = sehmelir::Chunk::make([0; 300], 2)?;
-    /// assert_eq!(chunk.add(7, &sehmelir::outline(&[0, 0, 10], 1)?), Ok(172));
+    /// assert_eq!(chunk.add(7, &sehmelir::outline(&[0, 0, 10], 2)?), Ok(268));
     /// # Ok::<(), sehmelir::Refusal>(())
     /// ```
     ///
@@ -158,13 +158,13 @@ impl<B: AsRef<[u8]> + AsMut<[u8]>> Chunk<B> {
     /// ```
     /// use sehmelir::{outline, Chunk, Refusal};
     ///
-    /// let circle = outline(&[0, 0, 10], 1)?;
-    /// let mut chunk = Chunk::make([0; 300], 2)?;
-    /// assert_eq!(chunk.add(7, &circle[..171]), Err(Refusal::NotOutline));
+    /// let circle = outline(&[0, 0, 10], 2)?;
+    /// let mut chunk = Chunk::make([0; 400], 2)?;
+    /// assert_eq!(chunk.add(7, &circle[..267]), Err(Refusal::NotOutline));
     /// chunk.add(7, &circle)?;
     /// assert_eq!(chunk.add(7, &circle), Err(Refusal::KeyThere(7)));
-    /// assert_eq!(chunk.add(8, &circle), Err(Refusal::NoRoom(172)));
-    /// chunk.add(8, &outline(&[], 1)?)?;
+    /// assert_eq!(chunk.add(8, &circle), Err(Refusal::NoRoom(268)));
+    /// chunk.add(8, &outline(&[], 2)?)?;
     /// assert_eq!(chunk.add(9, &circle), Err(Refusal::TableFull(2)));
     /// # Ok::<(), Refusal>(())
     /// ```
@@ -188,8 +188,8 @@ impl<B: AsRef<[u8]> + AsMut<[u8]>> Chunk<B> {
     ///
     /// ```
     /// let mut chunk = sehmelir::Chunk::make([0; 300], 2)?;
-    /// chunk.add(7, &sehmelir::outline(&[0, 0, 10], 1)?)?;
-    /// assert_eq!(chunk.remove(7), Ok(172));
+    /// chunk.add(7, &sehmelir::outline(&[0, 0, 10], 2)?)?;
+    /// assert_eq!(chunk.remove(7), Ok(268));
     /// assert_eq!(chunk.remove(7), Err(sehmelir::Refusal::KeyMissing(7)));
     /// # Ok::<(), sehmelir::Refusal>(())
     /// ```
@@ -206,12 +206,12 @@ impl<B: AsRef<[u8]> + AsMut<[u8]>> Chunk<B> {
     /// many bytes stand before it.
     ///
     /// ```
-    /// let (circle, none) = (sehmelir::outline(&[0, 0, 10], 1)?, sehmelir::outline(&[], 1)?);
-    /// let mut chunk = sehmelir::Chunk::make([0; 300], 2)?;
+    /// let (circle, none) = (sehmelir::outline(&[0, 0, 10], 2)?, sehmelir::outline(&[], 2)?);
+    /// let mut chunk = sehmelir::Chunk::make([0; 400], 2)?;
     /// chunk.add(7, &circle)?;
     /// chunk.add(8, &none)?;
     /// chunk.remove(7)?;
-    /// assert_eq!(chunk.find(8)?, 200..224);
+    /// assert_eq!(chunk.find(8)?, 296..320);
     /// assert_eq!(chunk.compact(), Ok(52));
     /// assert_eq!(chunk.find(8)?, 28..52);
     /// # Ok::<(), sehmelir::Refusal>(())

@@ -121,11 +121,11 @@ pub struct Why {
 /// ```
 /// use sehmelir::{explain, outline, Reason};
 ///
-/// let store = outline(&[0, 0, 5, 20, 0, 5], 1)?;
+/// let store = outline(&[0, 0, 5, 20, 0, 5], 2)?;
 /// let told = |edge| explain(&store, edge).map(|why| (why.reason, why.vertex, why.place));
 /// assert_eq!(told(0), Ok((Reason::LeftSide, 1, 0)));
 /// assert_eq!(told(3), Ok((Reason::StartCap, 1, 1)));
-/// assert_eq!(told(9), Ok((Reason::EndCap, 2, 3)));
+/// assert_eq!(told(15), Ok((Reason::EndCap, 2, 6)));
 /// # Ok::<(), sehmelir::Refusal>(())
 /// ```
 ///
@@ -136,7 +136,7 @@ pub struct Why {
 /// ```
 /// use sehmelir::{explain, outline};
 ///
-/// let store = outline(&[0, 0, 5, 7, 2, 0], 1)?;
+/// let store = outline(&[0, 0, 5, 7, 2, 0], 2)?;
 /// let exact = |edge| explain(&store, edge).map(|why| (why.start_exact, why.end_exact));
 /// assert_eq!(exact(0), Ok((true, false)));
 /// assert_eq!(exact(1), Ok((false, true)));
@@ -151,11 +151,11 @@ pub struct Why {
 /// ```
 /// use sehmelir::{explain, kerb, outline, Join, Refusal, Style};
 ///
-/// let store = outline(&[0, 0, 10], 1)?;
-/// assert_eq!(explain(&store, 8), Err(Refusal::NoEdge(8)));
+/// let store = outline(&[0, 0, 10], 2)?;
+/// assert_eq!(explain(&store, 14), Err(Refusal::NoEdge(14)));
 /// assert_eq!(explain(&[], 0), Err(Refusal::NotOutline));
 /// let style = Style { radius: 5, join: Join::Bevel, closed: false };
-/// let store = kerb(&[0, 0, 20, 0], 1, style)?;
+/// let store = kerb(&[0, 0, 20, 0], 2, style)?;
 /// assert_eq!(explain(&store, 99), Err(Refusal::OtherKind(1)));
 /// # Ok::<(), Refusal>(())
 /// ```
@@ -172,11 +172,11 @@ pub fn explain(store: &[u8], edge: usize) -> Result<Why, Refusal> {
 /// takes grows with the edges.
 ///
 /// ```
-/// let store = sehmelir::outline(&[0, 0, 5, 20, 0, 5], 1)?;
-/// let mut out = [99; 52];
-/// assert_eq!(sehmelir::list(&store, &mut out), Ok(10));
+/// let store = sehmelir::outline(&[0, 0, 5, 20, 0, 5], 2)?;
+/// let mut out = [99; 82];
+/// assert_eq!(sehmelir::list(&store, &mut out), Ok(16));
 /// assert_eq!(out[..15], [0, 1, 0, 1, 1, 1, 1, 0, 1, 1, 2, 1, 0, 0, 0]);
-/// assert_eq!(out[45..], [3, 2, 3, 0, 0, 99, 99]);
+/// assert_eq!(out[75..], [3, 2, 6, 0, 0, 99, 99]);
 /// # Ok::<(), sehmelir::Refusal>(())
 /// ```
 ///
@@ -189,8 +189,8 @@ pub fn explain(store: &[u8], edge: usize) -> Result<Why, Refusal> {
 /// ```
 /// use sehmelir::{list, outline, Refusal};
 ///
-/// let store = outline(&[0, 0, 10], 1)?;
-/// assert_eq!(list(&store, &mut [0; 39]), Err(Refusal::NoRoom(8)));
+/// let store = outline(&[0, 0, 10], 2)?;
+/// assert_eq!(list(&store, &mut [0; 69]), Err(Refusal::NoRoom(14)));
 /// # Ok::<(), Refusal>(())
 /// ```
 pub fn list(store: &[u8], out: &mut [usize]) -> Result<usize, Refusal> {
@@ -203,8 +203,8 @@ pub fn list(store: &[u8], out: &mut [usize]) -> Result<usize, Refusal> {
 /// ```
 /// use sehmelir::{outline, whys, Reason};
 ///
-/// let circle = whys(&outline(&[0, 0, 10], 1)?)?;
-/// assert_eq!(circle.len(), 8);
+/// let circle = whys(&outline(&[0, 0, 10], 2)?)?;
+/// assert_eq!(circle.len(), 14);
 /// assert_eq!((circle[5].reason, circle[5].vertex, circle[5].place), (Reason::Circle, 1, 5));
 /// # Ok::<(), sehmelir::Refusal>(())
 /// ```

@@ -77,6 +77,7 @@ pub fn answer(reply: Reply) -> Result<usize, Refusal> {
         16 => Refusal::KeyMissing(reply.number.try_into().unwrap()),
         17 => Refusal::TableFull(number),
         18 => Refusal::WithoutEdges(number),
+        19 => Refusal::NoListRoom(number),
         other => panic!("{other} is no reply of the documents"),
     };
     Err(refusal)
@@ -203,7 +204,7 @@ fn keeps() {
 /// An outline of either edition, now and then damaged, now and then with bytes
 /// after it.
 pub fn store(maker: &mut Maker, path: &Path) -> Vec<u8> {
-    let grade = maker.grade();
+    let grade = maker.stored_grade();
     let mut store = of_either_edition(maker, path, grade);
     if maker.chance(50) {
         maker.damage(&mut store);
@@ -261,7 +262,7 @@ fn reaches_past_thin_steps() {
     let mut maker = Maker::new(10);
     let (mut next, mut beyond, mut none) = (0, 0, 0);
     for _ in 0..cases() / 5 {
-        let (mut path, grade) = (maker.path(VERTICES), maker.grade());
+        let (mut path, grade) = (maker.path(VERTICES), maker.stored_grade());
         for vertex in &mut path {
             vertex[2] = maker.pick(&[0, 1, 1, 1, vertex[2]]);
         }
@@ -341,15 +342,22 @@ pub const SHORT: [&[[i32; 3]]; 5] = [
     &[[0, 0, 1], [20, 0, 1]],
 ];
 
-/// The outline of each edition of a short path, and how many words a vertex has
-/// in it.
-pub fn both_editions(path: &[[i32; 3]]) -> [(Vec<u8>, usize); 2] {
+/// The outlines of a short path in each edition, at a grade at which they were
+/// kept once and at one at which they are, and how many words a vertex has in
+/// them.
+pub fn both_editions(path: &[[i32; 3]]) -> [(Vec<u8>, usize); 4] {
     let numbers = [411, u32::MAX, 0];
-    [(outline(path, 1), 4), (numbered(path, &numbers, 1), 5)]
+    [
+        (outline(path, 1), 4),
+        (numbered(path, &numbers, 1), 5),
+        (outline(path, 2), 4),
+        (numbered(path, &numbers, 2), 5),
+    ]
 }
 
 /// Where there are edges no changed byte makes another sound outline, but for
-/// those of a point number, which may be any.
+/// those of a point number, which may be any, and of the grade, where small arcs
+/// are the same at two grades.
 #[test]
 fn every_damaged_byte() {
     for (path, (sound, entry)) in SHORT
@@ -364,7 +372,7 @@ fn every_damaged_byte() {
                 let mut store = sound.clone();
                 store[at] ^= change;
                 let (read, _) = (read(&store, 3 * path.len()), replace(&store, 0, [0, 0, 1]));
-                assert!(read.reply != 0 || !has_edges || number);
+                assert!(read.reply != 0 || !has_edges || number || at == 8);
                 assert!(read.reply == 0 || !number);
                 reach(&store, 0);
                 point_numbers(&store, path.len());
@@ -392,7 +400,7 @@ fn every_cut_store() {
 fn every_short_room() {
     for path in SHORT {
         let numbers = path.as_flattened();
-        let edges = needed(plain::calls::draw(numbers, 1, &mut []));
+        let edges = needed(plain::calls::draw(numbers, 2, &mut []));
         let due = |enough: bool| match enough {
             _ if without_edges(path) => 18,
             true => 0,
@@ -400,12 +408,12 @@ fn every_short_room() {
         };
         for length in 0..4 * edges + 3 {
             let enough = length >= 4 * edges;
-            assert_eq!(draw(numbers, 1, length).reply, due(enough));
+            assert_eq!(draw(numbers, 2, length).reply, due(enough));
         }
-        let sound = numbered(path, &[], 1);
+        let sound = numbered(path, &[], 2);
         for length in 0..sound.len() + 3 {
             let enough = length >= sound.len();
-            assert_eq!(keep(numbers, 1, length).reply, due(enough));
+            assert_eq!(keep(numbers, 2, length).reply, due(enough));
         }
         for length in 0..numbers.len() + 3 {
             let enough = length >= numbers.len();
@@ -417,29 +425,37 @@ fn every_short_room() {
         for length in point.len()..grown.len() + 3 {
             let mut store = point.clone();
             store.resize(length, 0xEE);
-            let enough = length >= grown.len();
-            assert_eq!(replace(&store, 0, [0, 0, 10]).0.reply == 0, enough);
+            let due = match (store[8], length >= grown.len()) {
+                (1, _) => 3,
+                (_, true) => 0,
+                (_, false) => 5,
+            };
+            assert_eq!(replace(&store, 0, [0, 0, 10]).0.reply, due);
         }
     }
 }
 
 /// Draw holds up to 1,024, 8,192, 32,768 or 131,072 numbers while it counts.
-/// Circles within circles have 32 numbers each at grade 1 and 208 at grade 4:
-/// here what is drawn before the last of them comes to some circles less than
-/// draw holds, to just as many numbers but for the last row, and to more.
+/// Circles about one point have 56 numbers each at grade 2, small ones 48, and at
+/// grade 4 they have 208: here what is drawn before the last of them comes to some
+/// circles less than draw holds, to just as many numbers, at grade 4 but for the
+/// last row, and to more.
 #[test]
 fn as_much_as_draw_holds_and_more() {
-    for (held, grade, numbers) in [
-        (1_024, 1, 32),
-        (8_192, 1, 32),
-        (32_768, 1, 32),
-        (131_072, 4, 208),
+    for (held, grade, wide, numbers) in [
+        (1_024, 2, 2, 48),
+        (8_192, 2, 4, 48),
+        (32_768, 2, 4, 48),
+        (131_072, 2, 4, 48),
+        (131_072, 4, 0, 208),
     ] {
-        let full = held / numbers + 1;
+        let full = wide + (held - 56 * wide) / numbers + 1;
+        let small = if grade == 2 { 2 } else { 2000 };
         for count in full - 2..=full + 2 {
-            let circle = |place: usize| [0, 0, 20 * (count - place) as i32];
+            let circle = |place: usize| [0, 0, if place < wide { 20 } else { small }];
             let path: Path = (0..count).map(circle).collect();
             let needed = needed(plain::calls::draw(path.as_flattened(), grade, &mut []));
+            assert_eq!(4 * needed, 56 * wide + numbers * (count - wide));
             for (length, reply) in [(4 * needed, 0), (4 * needed - 1, 5), (4 * needed + 3, 0)] {
                 assert_eq!(draw(path.as_flattened(), grade, length).reply, reply);
             }
@@ -525,7 +541,7 @@ fn long_path(maker: &mut Maker, count: usize) -> Path {
 #[test]
 fn long_paths() {
     let mut maker = Maker::new(6);
-    for (count, grade) in [(4096, 1), (4096, 4), (300, 8), (2500, 6)] {
+    for (count, grade) in [(4096, 2), (4096, 4), (300, 8), (2500, 6)] {
         let path = long_path(&mut maker, count);
         let numbers = path.as_flattened();
         let edges = needed(plain::calls::draw(numbers, grade, &mut []));

@@ -75,22 +75,24 @@ fn by_hand() {
         [25, 0, 25, 20],
         [15, 0, 20, 0],
         [20, 0, 20, 5],
-        [20, -5, 24, -3],
-        [24, -3, 25, 0],
+        [20, -5, 22, -4],
+        [22, -4, 24, -3],
+        [24, -3, 25, -1],
+        [25, -1, 25, 0],
         [0, 5, 0, -5],
         [25, 20, 15, 20],
     ];
-    let mut out = [7; 42];
-    assert_eq!(draw_kerb(&corner, 1, round, &mut out), Ok(10));
-    assert_eq!(out[..40], *edges.as_flattened());
-    let words = [1, 1, 1, 3, 10, 5, 1, 0, 0, 0, 20, 0, 20, 20, 4, 4, 2];
+    let mut out = [7; 50];
+    assert_eq!(draw_kerb(&corner, 2, round, &mut out), Ok(12));
+    assert_eq!(out[..48], *edges.as_flattened());
+    let words = [1, 1, 2, 3, 12, 5, 1, 0, 0, 0, 20, 0, 20, 20, 4, 6, 2];
     let words = words.iter().chain(edges.as_flattened());
     let bytes: Vec<u8> = words.flat_map(|word: &i32| word.to_le_bytes()).collect();
-    assert_eq!(kerb(&corner, 1, round).unwrap(), bytes);
-    assert_eq!(bytes.len(), kerb_bytes(3, 10));
+    assert_eq!(kerb(&corner, 2, round).unwrap(), bytes);
+    assert_eq!(bytes.len(), kerb_bytes(3, 12));
     let mut out = [7; 7];
     let kept = sehmelir::read(&bytes, &mut out).unwrap();
-    assert_eq!((kept.vertices, kept.grade), (3, 1));
+    assert_eq!((kept.vertices, kept.grade), (3, 2));
     assert_eq!(kept.form, Form::Kerb(round));
     assert_eq!(out, [0, 0, 20, 0, 20, 20, 7]);
     assert_eq!(kept.form.numbers(), 2);
@@ -101,8 +103,10 @@ fn by_hand() {
 fn refusals() {
     let far = vec![268435457; 2 * 4097];
     let line: &[i32] = &[0, 0, 20, 0];
-    let table: [(&[i32], u32, StyleWords, (u32, u64)); 18] = [
+    let table: [(&[i32], u32, StyleWords, (u32, u64)); 20] = [
         (&[7], 1, [5, 0, 0], (1, 1)),
+        (&far, 1, [u32::MAX; 3], (3, 1)),
+        (line, 1, [5, 0, 0], (3, 1)),
         (&far[..8193], 9, [u32::MAX; 3], (1, 8193)),
         (&far, 9, [u32::MAX; 3], (3, 9)),
         (&far, 0, [u32::MAX; 3], (3, 0)),
@@ -114,11 +118,11 @@ fn refusals() {
         (&far, 8, [1, 1, u32::MAX], (11, 7)),
         (&far, 8, [1, 1, 1], (2, 4097)),
         (&far[..8192], 8, [1, 1, 1], (4, 0)),
-        (&[0, 0, 0, -268435457], 1, [1, 0, 0], (4, 1)),
-        (line, 1, [0, 0, 0], (18, 2)),
-        (line, 1, [1, 1, 1], (18, 2)),
-        (&[3, 4, 3, 4, 3, 4], 1, [5, 1, 1], (18, 3)),
-        (&[3, 4], 1, [5, 0, 0], (18, 1)),
+        (&[0, 0, 0, -268435457], 2, [1, 0, 0], (4, 1)),
+        (line, 2, [0, 0, 0], (18, 2)),
+        (line, 2, [1, 1, 1], (18, 2)),
+        (&[3, 4, 3, 4, 3, 4], 2, [5, 1, 1], (18, 3)),
+        (&[3, 4], 2, [5, 0, 0], (18, 1)),
         (&[0; 8192], 2, [5, 0, 1], (18, 4096)),
     ];
     for (points, grade, style, expected) in table {
@@ -127,7 +131,7 @@ fn refusals() {
             assert_eq!(answer(keep(points, grade, style, length)), Err(expected));
         }
     }
-    assert_eq!(draw_kerb(line, 1, STYLE, &mut []), Err(Refusal::NoRoom(4)));
+    assert_eq!(draw_kerb(line, 2, STYLE, &mut []), Err(Refusal::NoRoom(4)));
 }
 
 #[test]
@@ -158,7 +162,7 @@ fn keeps() {
 
 /// A kept kerb, now and then damaged, now and then with bytes after it.
 pub fn store(maker: &mut Maker) -> (usize, Vec<u8>) {
-    let ((points, style), grade) = (maker.kerb(VERTICES), maker.grade());
+    let ((points, style), grade) = (maker.kerb(VERTICES), maker.stored_grade());
     let mut store = outline(&points, grade, style);
     if maker.chance(50) {
         maker.damage_kerb(&mut store);
@@ -239,7 +243,7 @@ fn every_cut_store() {
 fn every_short_room() {
     for (points, style) in SHORT {
         let numbers = points.as_flattened();
-        let sound = outline(points, 1, style);
+        let sound = outline(points, 2, style);
         let edges = (sound.len() - kerb_bytes(points.len(), 0)) / 16;
         let due = |enough: bool| match enough {
             _ if edges == 0 && !points.is_empty() => 18,
@@ -248,11 +252,11 @@ fn every_short_room() {
         };
         for length in 0..4 * edges + 3 {
             let enough = length >= 4 * edges;
-            assert_eq!(draw(numbers, 1, style, length).reply, due(enough));
+            assert_eq!(draw(numbers, 2, style, length).reply, due(enough));
         }
         for length in 0..sound.len() + 3 {
             let enough = length >= sound.len();
-            assert_eq!(keep(numbers, 1, style, length).reply, due(enough));
+            assert_eq!(keep(numbers, 2, style, length).reply, due(enough));
         }
         for length in 0..numbers.len() + 3 {
             let enough = length >= numbers.len();
@@ -265,7 +269,7 @@ fn every_short_room() {
 #[test]
 fn long_kerbs() {
     let mut maker = Maker::new(25);
-    for (count, grade) in [(4096, 1), (4096, 4), (1000, 8)] {
+    for (count, grade) in [(4096, 2), (4096, 4), (1000, 8)] {
         let mut points = Vec::new();
         while points.len() < count {
             points.extend(maker.kerb(40).0);

@@ -1,6 +1,6 @@
 //! The calls on memory between canaries.
 
-use sehmelir::{Chunk, Join, Kept, Refusal, Style, Vertex, Why};
+use sehmelir::{Chunk, Join, Kept, Refusal, Salvaged, Sheet, Style, Vertex, Why};
 use std::fmt::Debug;
 use std::ops::Range;
 
@@ -72,7 +72,12 @@ fn lend_records<T>(
 where
     T: Copy + Debug + From<u8> + PartialEq,
 {
-    let canary = Vertex::from([i32::MIN, i32::MAX, -1]);
+    let canary = Vertex {
+        x: i32::MIN,
+        y: i32::MAX,
+        radius: -1,
+        number: 7,
+    };
     let mut memory = vec![canary; path.len() + 2];
     memory[1..=path.len()].copy_from_slice(path);
     let before = memory.clone();
@@ -234,6 +239,10 @@ pub fn replace(store: &[u8], index: usize, [x, y, radius]: [i32; 3]) -> Outcome<
     lend(store, |store| sehmelir::replace(store, index, x, y, radius))
 }
 
+pub fn convert(store: &[u8], grade: u32) -> Outcome<usize, u8> {
+    lend(store, |store| sehmelir::convert(store, grade))
+}
+
 pub fn reach(store: &[u8], index: usize) -> Result<usize, Refusal> {
     lend_to_read(store, |store| sehmelir::reach(store, index))
 }
@@ -244,6 +253,28 @@ pub fn explain(store: &[u8], edge: usize) -> Result<Why, Refusal> {
 
 pub fn list(store: &[u8], room: &[usize]) -> Outcome<usize, usize> {
     lend_to_read(store, |store| lend(room, |out| sehmelir::list(store, out)))
+}
+
+pub fn side(
+    before: &[u8],
+    after: &[u8],
+    sheet: Sheet,
+    vertex: usize,
+) -> Result<Range<usize>, Refusal> {
+    lend_to_read(before, |before| {
+        lend_to_read(after, |after| {
+            sehmelir::side_range(before, after, sheet, vertex)
+        })
+    })
+}
+
+/// The outcome with the outline's room, and the list's room afterwards.
+pub fn salvage(store: &[u8], room: &[u8], list: &[u32]) -> (Outcome<Salvaged, u8>, Vec<u32>) {
+    lend_to_read(store, |store| {
+        lend(list, |list| {
+            lend(room, |out| sehmelir::salvage(store, out, list))
+        })
+    })
 }
 
 pub fn import(numbers: &[f32], room: &[i32]) -> Outcome<usize, i32> {

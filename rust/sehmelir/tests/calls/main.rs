@@ -3,6 +3,7 @@
 
 mod beside_plain;
 mod chunks;
+mod converting;
 mod examples;
 mod kerbs;
 mod lent;
@@ -12,4 +13,6 @@ mod oldest;
 mod reasons;
 mod records;
 mod refusals;
+mod salvage;
+mod sides;
 mod stack;

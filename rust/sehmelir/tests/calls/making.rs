@@ -131,14 +131,23 @@ impl Maker {
         numbers
     }
 
+    /// A grade that lines are drawn at.
     pub fn grade(&mut self) -> u32 {
-        self.random.pick(&[1, 1, 1, 2, 2, 3, 4, 5, 6, 7, 8])
+        self.random.pick(&[2, 2, 2, 2, 3, 3, 4, 5, 6, 7, 8])
+    }
+
+    /// A grade that outlines in stores have: also 1, at which they were kept once.
+    pub fn stored_grade(&mut self) -> u32 {
+        match self.chance(25) {
+            true => 1,
+            false => self.grade(),
+        }
     }
 
     /// A grade that now and then is to be refused.
     pub fn lent_grade(&mut self) -> u32 {
         match self.chance(5) {
-            true => self.random.pick(&[0, 9, 256, 257, u32::MAX]),
+            true => self.random.pick(&[0, 1, 1, 9, 256, 257, u32::MAX]),
             false => self.grade(),
         }
     }
@@ -249,6 +258,64 @@ impl Maker {
                 (place as usize, random.below(20) as u32)
             }
         };
-        store[4 * place..4 * place + 4].copy_from_slice(&word.to_le_bytes());
+        // a store that is cut already may end before that place
+        if let Some(bytes) = store.get_mut(4 * place..4 * place + 4) {
+            bytes.copy_from_slice(&word.to_le_bytes());
+        }
+    }
+
+    /// Spoils a store of a path behind its vertices: a count, two that make up for
+    /// each other, the total, its edges, or its end.
+    pub fn spoil(&mut self, store: &mut Vec<u8>) {
+        let word = |store: &[u8], place: usize| {
+            let at = 4 * place;
+            u32::from_le_bytes([store[at], store[at + 1], store[at + 2], store[at + 3]])
+        };
+        let vertices = word(store, 3) as usize;
+        let entry = 3 + word(store, 0) as usize;
+        let front = 24 + 4 * entry * vertices;
+        if store.len() < front {
+            return;
+        }
+        let count = |body: usize| match body {
+            _ if body < vertices => 5 + entry * (body + 1) - 1,
+            _ => 5 + entry * vertices,
+        };
+        let random = &mut self.random;
+        let body = random.below(vertices as u64 + 1) as usize;
+        let put = |store: &mut Vec<u8>, place: usize, word: u32| {
+            store[4 * place..4 * place + 4].copy_from_slice(&word.to_le_bytes());
+        };
+        match random.below(12) {
+            0..3 => {
+                let old = word(store, count(body));
+                let few = random.below(30) as u32;
+                let words = [
+                    old ^ 1,
+                    old.wrapping_add(1),
+                    old / 2,
+                    0,
+                    few,
+                    u32::MAX,
+                    1 << 28,
+                ];
+                put(store, count(body), random.pick(&words));
+            }
+            3 if body < vertices => {
+                let [old, next] = [body, body + 1].map(|body| word(store, count(body)));
+                let moved = random.below(u64::from(old) + 1) as u32;
+                put(store, count(body), old - moved);
+                put(store, count(body + 1), next.wrapping_add(moved));
+            }
+            4 => put(store, 4, random.pick(&[0, 1, 7, 1 << 28, u32::MAX])),
+            5 => store.truncate(front + random.below((store.len() - front) as u64 + 1) as usize),
+            6 => store.truncate(random.below(store.len() as u64 + 1) as usize),
+            7 => store[front..].fill(0),
+            _ if store.len() > front => {
+                let at = front + random.below((store.len() - front) as u64) as usize;
+                store[at] = store[at].wrapping_add(random.between(1, 255) as u8);
+            }
+            _ => {}
+        }
     }
 }

@@ -1,12 +1,14 @@
 //! Document 02, request 11: point numbers, beside `plain`, and outlines of
 //! edition 1 that were kept before there were any.
 
-use crate::beside_plain::{cases, numbered, point_numbers, read, replace, store, Tally, VERTICES};
+use crate::beside_plain::{
+    cases, numbered, outline as first_edition, point_numbers, read, replace, store, Tally, VERTICES,
+};
 use crate::kerbs;
 use crate::lent::{self, room};
 use crate::making::Maker;
 use plain::calls::Reply;
-use sehmelir::{keep_kerb, outline, Form, Join, Style};
+use sehmelir::{keep_kerb, outline, Form, Join, Refusal, Style};
 
 #[test]
 fn are_read() {
@@ -18,7 +20,7 @@ fn are_read() {
     }
     for _ in 0..cases() / 10 {
         let (points, style) = maker.kerb(5);
-        let grade = maker.grade();
+        let grade = maker.stored_grade();
         let mut store = kerbs::outline(&points, grade, style);
         if maker.chance(50) {
             maker.damage_kerb(&mut store);
@@ -62,6 +64,17 @@ fn bytes(hex: &str) -> Vec<u8> {
     (0..hex.len()).step_by(2).map(byte).collect()
 }
 
+/// An outline of grade 1 is converted to grade 2: the same path, of edition 1.
+fn assert_converted(once: &[u8], path: &[i32]) {
+    let triples: Vec<[i32; 3]> = path.as_chunks::<3>().0.to_vec();
+    let new = first_edition(&triples, 2);
+    let mut store = once.to_vec();
+    store.resize(once.len().max(new.len()), 0xEE);
+    let (answer, after) = lent::convert(&store, 2);
+    assert_eq!(answer, Ok(new.len()));
+    assert_eq!(after[..new.len()], new);
+}
+
 #[test]
 fn of_outlines_kept_once_are_zeros() {
     let mut lines = ONCE.lines().filter(|line| !line.starts_with('#'));
@@ -80,11 +93,17 @@ fn of_outlines_kept_once_are_zeros() {
                 assert_eq!(lent::read(&once, &room(path.len())).1, path);
                 let zeros = (Ok(count), vec![0; count]);
                 assert_eq!(lent::numbers(&once, &room(count)), zeros);
-                // What is kept today differs in its edition and its entries alone.
-                let now = outline(path, grade).unwrap();
-                let front = 20 + 16 * count;
-                assert_eq!((&now[..4], &now[4..20]), (&[2, 0, 0, 0][..], &once[4..20]));
-                assert_eq!(now[front + 4 * count..], once[front..]);
+                // What is kept today differs in its edition and its entries alone,
+                // but at grade 1 nothing is kept any more.
+                if grade == 1 {
+                    assert_eq!(outline(path, grade), Err(Refusal::Grade(1)));
+                    assert_converted(&once, path);
+                } else {
+                    let now = outline(path, grade).unwrap();
+                    let front = 20 + 16 * count;
+                    assert_eq!((&now[..4], &now[4..20]), (&[2, 0, 0, 0][..], &once[4..20]));
+                    assert_eq!(now[front + 4 * count..], once[front..]);
+                }
                 (store, strokes) = (once, strokes + 1);
             }
             "replace" => {
@@ -94,9 +113,15 @@ fn of_outlines_kept_once_are_zeros() {
                 let old = store.len();
                 store.resize(old.max(once.len()), 0xEE);
                 let (reply, after) = replace(&store, index as usize, [x, y, radius]);
+                replaced += 1;
+                // At grade 1 nothing is replaced any more, but what was still reads.
+                if store[8] == 1 {
+                    assert_eq!((reply, &after), (Reply::new(3, 1), &store));
+                    assert_eq!(read(&once, 64).grade, 1);
+                    continue;
+                }
                 assert_eq!(reply, Reply::new(0, once.len() as u64));
                 assert_eq!(after[..once.len()], once);
-                replaced += 1;
             }
             _ => {
                 let (head, points) = numbers.split_at(4);
@@ -114,7 +139,10 @@ fn of_outlines_kept_once_are_zeros() {
                 assert_eq!(out, points);
                 let mut now = vec![0; once.len()];
                 let kept = keep_kerb(points, head[0] as u32, style, &mut now);
-                assert_eq!((kept, now), (Ok(once.len()), once));
+                match head[0] {
+                    1 => assert_eq!(kept, Err(Refusal::Grade(1))),
+                    _ => assert_eq!((kept, now), (Ok(once.len()), once)),
+                }
                 kerbs += 1;
             }
         }

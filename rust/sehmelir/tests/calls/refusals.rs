@@ -24,23 +24,26 @@ where
 fn of_paths() {
     let far = vec![FAR; 3 * 4097];
     let thin = [0, 0, 1, 50, 0, 1, 7];
-    let table: [(&[i32], u32, Refusal); 19] = [
+    let table: [(&[i32], u32, Refusal); 22] = [
         (&[7], 1, Refusal::Uneven(1)),
+        (&far, 1, Refusal::Grade(1)),
+        (&[], 1, Refusal::Grade(1)),
+        (&thin[..6], 1, Refusal::Grade(1)),
         (&far[..12290], 9, Refusal::Uneven(12290)),
         (&far, 9, Refusal::Grade(9)),
         (&far, 0, Refusal::Grade(0)),
         (&[], u32::MAX, Refusal::Grade(u32::MAX)),
         (&far, 8, Refusal::TooMany(4097)),
         (&far[..12288], 8, Refusal::Outside(0)),
-        (&[0, 0, 0, 1, 1, -1, 0, 0, FAR], 1, Refusal::Outside(1)),
-        (&[0, -FAR, 1], 1, Refusal::Outside(0)),
-        (&[0, FAR, 1], 1, Refusal::Outside(0)),
-        (&[0, 0, FAR], 1, Refusal::Outside(0)),
-        (&[i32::MIN, i32::MIN, i32::MIN], 1, Refusal::Outside(0)),
+        (&[0, 0, 0, 1, 1, -1, 0, 0, FAR], 2, Refusal::Outside(1)),
+        (&[0, -FAR, 1], 2, Refusal::Outside(0)),
+        (&[0, FAR, 1], 2, Refusal::Outside(0)),
+        (&[0, 0, FAR], 2, Refusal::Outside(0)),
+        (&[i32::MIN, i32::MIN, i32::MIN], 2, Refusal::Outside(0)),
         (&thin, 9, Refusal::Uneven(7)),
         (&thin[..6], 9, Refusal::Grade(9)),
-        (&[0, 0, 1, 50, 0, -1], 1, Refusal::Outside(1)),
-        (&thin[..6], 1, Refusal::WithoutEdges(2)),
+        (&[0, 0, 1, 50, 0, -1], 2, Refusal::Outside(1)),
+        (&thin[..6], 2, Refusal::WithoutEdges(2)),
         (&thin[..3], 8, Refusal::WithoutEdges(1)),
         (&[0, 0, 0, 1, 0, 1, 1, 0, 1], 3, Refusal::WithoutEdges(3)),
         (&[0; 3 * 4096], 2, Refusal::WithoutEdges(4096)),
@@ -62,7 +65,7 @@ fn store(words: &[i32], more: usize) -> Vec<u8> {
 
 #[test]
 fn of_stores() {
-    let mut damaged = outline(&[0, 0, 2], 1).unwrap();
+    let mut damaged = outline(&[0, 0, 2], 2).unwrap();
     damaged[50] ^= 1;
     let table = [
         (store(&[], 0), Refusal::NotOutline),
@@ -167,14 +170,36 @@ fn of_stores() {
     }
 }
 
-/// An outline without edges, as they were kept once.
-fn thin_store() -> Vec<u8> {
-    store(&[1, 0, 1, 2, 0, 0, 0, 1, 0, 50, 0, 1, 0, 0], 0)
+/// An outline without edges, as they were kept once, at a grade.
+fn thin_store(grade: i32) -> Vec<u8> {
+    store(&[1, 0, grade, 2, 0, 0, 0, 1, 0, 50, 0, 1, 0, 0], 0)
+}
+
+/// Grade 1: after all that is wrong with a store and 12, before all else.
+#[test]
+fn of_replacements_at_grade_1() {
+    let circle = plain::outline::first_edition(&[plain::contacts::Vertex::new(0, 0, 10)], 1);
+    for store in [thin_store(1), circle] {
+        let longer = [&store, room(400).as_slice()].concat();
+        for (index, vertex) in [(9, [FAR, 0, 0]), (0, [FAR, 0, 0]), (0, [0; 3]), (0, [9; 3])] {
+            for store in [&store, &longer] {
+                let refused = Refusal::Grade(1);
+                assert_refused(replace(store, index, vertex), store, refused);
+            }
+        }
+        let kept = read(&longer, &room(6)).0.unwrap();
+        assert_eq!(kept.grade, 1);
+        let mut unsound = store.clone();
+        let last = unsound.len() - 1;
+        unsound[last] ^= 1;
+        let refused = Refusal::NotSound(last);
+        assert_refused(replace(&unsound, 9, [FAR, 0, 0]), &unsound, refused);
+    }
 }
 
 #[test]
 fn of_replacements() {
-    let store = thin_store();
+    let store = thin_store(2);
     let table = [
         (2, [FAR, 0, 0], Refusal::NoVertex(2)),
         (usize::MAX, [0, 0, 5], Refusal::NoVertex(usize::MAX)),
@@ -191,7 +216,7 @@ fn of_replacements() {
         let longer = [&store, room(400).as_slice()].concat();
         assert_refused(replace(&longer, index, vertex), &longer, expected);
     }
-    let wide = outline(&[0, 0, 1, 50, 0, 2], 1).unwrap();
+    let wide = outline(&[0, 0, 1, 50, 0, 2], 2).unwrap();
     let refused = Refusal::WithoutEdges(2);
     assert_refused(replace(&wide, 1, [50, 0, 1]), &wide, refused);
     assert!(replace(&wide, 0, [50, 0, 1]).0.is_ok());
@@ -199,7 +224,7 @@ fn of_replacements() {
 
 #[test]
 fn of_reaches() {
-    let store = thin_store();
+    let store = thin_store(1);
     for index in [2, 3, 4096, 1 << 32, usize::MAX] {
         assert_eq!(reach(&store, index), Err(Refusal::NoVertex(index)));
     }
@@ -210,35 +235,35 @@ fn of_reaches() {
 #[test]
 fn of_rooms() {
     let circle = [0, 0, 10];
-    for length in [0, 1, 31] {
+    for length in [0, 1, 55] {
         let room = room(length);
-        assert_refused(draw(&circle, 1, &room), &room, Refusal::NoRoom(8));
+        assert_refused(draw(&circle, 2, &room), &room, Refusal::NoRoom(14));
     }
-    assert_eq!(draw(&circle, 1, &room(32)).0, Ok(8));
-    for length in [0, 1, 171] {
+    assert_eq!(draw(&circle, 2, &room(56)).0, Ok(14));
+    for length in [0, 1, 267] {
         let room = room(length);
-        assert_refused(keep(&circle, 1, &room), &room, Refusal::NoRoom(172));
+        assert_refused(keep(&circle, 2, &room), &room, Refusal::NoRoom(268));
     }
-    let (answer, store) = keep(&circle, 1, &room(172));
-    assert_eq!(answer, Ok(172));
+    let (answer, store) = keep(&circle, 2, &room(268));
+    assert_eq!(answer, Ok(268));
     for length in [0, 1, 2] {
         let room = room(length);
         assert_refused(read(&store, &room), &room, Refusal::NoRoom(1));
     }
     let kept = read(&store, &room(3)).0.unwrap();
-    assert_eq!((kept.vertices, kept.grade), (1, 1));
-    let once = self::store(&[1, 0, 1, 1, 0, 0, 0, 1, 0, 0], 0);
-    let point = self::store(&[2, 0, 1, 1, 0, 0, 0, 1, 0, 0, 0], 0);
-    for (point, needed) in [(&once, 168), (&point, 172)] {
-        for more in [0, 1, 127] {
+    assert_eq!((kept.vertices, kept.grade), (1, 2));
+    let once = self::store(&[1, 0, 2, 1, 0, 0, 0, 1, 0, 0], 0);
+    let point = self::store(&[2, 0, 2, 1, 0, 0, 0, 1, 0, 0, 0], 0);
+    for (point, needed) in [(&once, 264), (&point, 268)] {
+        for more in [0, 1, 223] {
             let store = [point, room(more).as_slice()].concat();
             assert_refused(replace(&store, 0, circle), &store, Refusal::NoRoom(needed));
         }
     }
-    let grown = [&point, room(128).as_slice()].concat();
-    assert_eq!(replace(&grown, 0, circle), (Ok(172), store));
-    let grown = [&once, room(128).as_slice()].concat();
-    assert_eq!(replace(&grown, 0, circle).0, Ok(168));
+    let grown = [&point, room(224).as_slice()].concat();
+    assert_eq!(replace(&grown, 0, circle), (Ok(268), store));
+    let grown = [&once, room(224).as_slice()].concat();
+    assert_eq!(replace(&grown, 0, circle).0, Ok(264));
 }
 
 #[test]
@@ -249,12 +274,13 @@ fn say_why() {
             "4 numbers are no path of triples and no kerb of pairs",
         ),
         (Refusal::TooMany(4097), "4097 vertices are above 4096"),
-        (Refusal::Grade(9), "grade 9 is not 1 to 8"),
+        (Refusal::Grade(9), "grade 9 is not 2 to 8"),
         (Refusal::Outside(3), "vertex 3 is outside the limits"),
         (
             Refusal::NoRoom(8),
             "the room is too short: the result has 8 edges if drawn or listed, \
-             vertices if read, imported or exported, bytes if kept, replaced or added",
+             vertices if read, imported or exported, bytes if kept, replaced, converted, added \
+             or salvaged",
         ),
         (
             Refusal::NotOutline,
@@ -287,8 +313,12 @@ fn say_why() {
             Refusal::WithoutEdges(3),
             "a path of 3 vertices has no edges",
         ),
+        (
+            Refusal::NoListRoom(5),
+            "the list has 5 entries and no room for them",
+        ),
     ];
-    let replies = 1..=18;
+    let replies = 1..=19;
     for ((refusal, text), reply) in table.into_iter().zip(replies) {
         let error: &dyn Error = &refusal;
         assert_eq!(error.to_string(), text);

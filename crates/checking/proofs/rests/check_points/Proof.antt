@@ -3,6 +3,7 @@ use borrow.Author.Needs.{needs}
 use mathlib.Core.Path.{refl}
 use native.Mathlib.Omega.{arith}
 use Rattle.checking.proofs.StoreReads.{kerb-agrees, kerb-told, kerb-radius}
+use Rattle.checking.proofs.StoreRooms.{kerb-enough}
 use Rattle.checking.proofs.StoreRows.{count-is, rest-outside, within-is, rest-unsound, rest-holds}
 use Rattle.checking.proofs.rests.check_points.Statement.{statement}
 use Rattle.checking.proofs.rests.check_points.Tie as tie
@@ -14,7 +15,7 @@ returns : tie.Need-returns
 returns c = rest-outside (c .before .before .before .pre .0) (c .before .before .before .pre .2) (c .before .first-outside .ensures) (c .if1 .taken)
 
 compare-kerb-requires : tie.Need-compare-kerb-requires
-compare-kerb-requires c κs = (count-is (c .before .before .before .before .pre .0) (c .before .before .before .before .pre .2), within-is (c .before .before .before .before .pre .0) (c .before .before .before .before .pre .2) (c .before .before .first-outside .ensures) (c .before .if1 .left), kerb-radius (c .before .before .before .before .pre .0) (c .before .before .before .before .pre .1), c .before .before .before .before .pre .3)
+compare-kerb-requires c κs = (count-is (c .before .before .before .before .pre .0) (c .before .before .before .before .pre .2), within-is (c .before .before .before .before .pre .0) (c .before .before .before .before .pre .2) (c .before .before .first-outside .ensures) (c .before .if1 .left), kerb-radius (c .before .before .before .before .pre .0) (c .before .before .before .before .pre .1), kerb-enough (c .before .before .before .before .pre .0) (c .before .before .before .before .pre .1) (c .before .before .before .before .pre .3))
 
 first-difference-requires : tie.Need-first-difference-requires
 first-difference-requires c κs = ((count-is (c .before .before .before .before .before .before .pre .0) (c .before .before .before .before .before .before .pre .2), omega (arith, c .before .before .before .before .before .before .pre .0 .vertices, c .before .before .before .before .before .before .pre .0 .headed .count), kerb-radius (c .before .before .before .before .before .before .pre .0) (c .before .before .before .before .before .before .pre .1)), kerb-agrees (c .before .before .before .before .before .before .args .h .n) (c .before .compare-kerb .ensures))

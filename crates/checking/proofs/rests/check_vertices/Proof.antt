@@ -3,6 +3,7 @@ use mathlib.Core.Path.{refl}
 use borrow.Author.Needs.{needs}
 use native.Mathlib.Omega.{arith}
 use Rattle.checking.proofs.StoreReads.{stroke-told, stroke-front}
+use Rattle.checking.proofs.StoreRooms.{stroke-enough}
 use Rattle.checking.proofs.StoreRows.{count-is, rest-outside, within-is, rest-unsound, rest-holds}
 use Rattle.checking.proofs.rests.check_vertices.Statement.{statement}
 use Rattle.checking.proofs.rests.check_vertices.Tie as tie
@@ -14,7 +15,7 @@ returns : tie.Need-returns
 returns c = rest-outside (c .before .before .before .pre .0) (c .before .before .before .pre .2) (c .before .first-outside .ensures) (c .if1 .taken)
 
 compare-requires : tie.Need-compare-requires
-compare-requires c κs = ((count-is (c .before .before .before .before .pre .0) (c .before .before .before .before .pre .2), within-is (c .before .before .before .before .pre .0) (c .before .before .before .before .pre .2) (c .before .before .first-outside .ensures) (c .before .if1 .left), c .before .before .before .before .pre .3), stroke-front (c .before .before .before .before .pre .0) (c .before .before .before .before .args .edition) (c .before .before .before .before .pre .1))
+compare-requires c κs = ((count-is (c .before .before .before .before .pre .0) (c .before .before .before .before .pre .2), within-is (c .before .before .before .before .pre .0) (c .before .before .before .before .pre .2) (c .before .before .first-outside .ensures) (c .before .if1 .left), stroke-enough (c .before .before .before .before .pre .0) (c .before .before .before .before .pre .3)), stroke-front (c .before .before .before .before .pre .0) (c .before .before .before .before .args .edition) (c .before .before .before .before .pre .1))
 
 first-difference-requires : tie.Need-first-difference-requires
 first-difference-requires c κs = ((count-is (c .before .before .before .before .before .before .pre .0) (c .before .before .before .before .before .before .pre .2), omega (arith, c .before .before .before .before .before .before .pre .0 .vertices, c .before .before .before .before .before .before .pre .0 .headed .count), tt), c .before .compare .ensures)

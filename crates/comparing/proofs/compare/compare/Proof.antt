@@ -11,6 +11,7 @@ use native.Mathlib.Omega.{arith}
 use lib.ListN.{length}
 use Rattle.paths.proofs.PathWalk.{some, inside-at}
 use Rattle.paths.specs.Paths.{pathOf}
+use Rattle.own_room.proofs.StepRooms.{step-room}
 use Rattle.comparing.proofs.Comparisons.{Going, going-start, going-step, going-entry, going-at, going-end, meets-none}
 use Rattle.words.proofs.OneWord.{word-room}
 use Rattle.plane.proofs.Directions.{step-unit}
@@ -63,7 +64,7 @@ post-at-requires-2 : tie.Need-post-at-requires-2 Inv-loop μ-loop
 post-at-requires-2 c κs = omega (arith, c .before .before .before .before .before .before .before .before .before .before .before .before .pre .1, entries-first (c .before .before .before .before .before .before .before .before .before .before .before .before .args .edition) (c .before .before .loop .k) (c .before .before .before .before .before .before .before .before .before .before .before .before .args .n) (c .before .loop-test .taken))
 
 compare-step-requires : tie.Need-compare-step-requires Inv-loop μ-loop
-compare-step-requires c κs = ((step-unit _ (c .before .before .before .before .before .before .before .before .before .before .step .ensures), c .before .before .before .before .loop .inv .2 .around, inside-at (pathOf (c .before .before .before .before .before .before .before .before .before .before .before .before .before .before .args .path .now)) (c .before .before .before .before .loop .k) (c .before .before .before .before .before .before .before .before .before .before .before .before .before .before .pre .0 .1 .inside) (omega (arith, c .before .before .before .before .before .before .before .before .before .before .before .before .before .before .pre .0 .0, c .before .before .before .loop-test .taken)) (c .before .before .vertex2 .ensures), omega (arith, c .before .before .before .before .before .before .before .before .before .before .before .before .before .before .pre .0 .2, c .before .before .before .before .loop .inv .1)), (going-entry (c .before .before .before .before .before .before .before .before .before .before .before .before .before .before .args .edition) (postsOf (Stroke (c .before .before .before .before .before .before .before .before .before .before .before .before .before .before .args .edition)) (c .before .before .before .before .before .before .before .before .before .before .before .before .before .before .args .n) (c .before .before .before .before .before .before .before .before .before .before .before .before .before .before .args .s .now)) (pathOf (c .before .before .before .before .before .before .before .before .before .before .before .before .before .before .args .path .now)) (c .before .before .before .before .before .before .before .before .before .before .before .before .before .before .pre .0 .1 .count) (c .before .before .before .before .before .before .before .before .before .before .before .before .front .ensures ∙ ap (frontBytes (Stroke (c .before .before .before .before .before .before .before .before .before .before .before .before .before .before .args .edition))) (c .before .before .before .before .before .before .before .before .before .before .before .before .before .before .pre .0 .0)) (c .before .before .before .before .loop .inv .2), going-at (c .before .before .before .before .before .before .before .before .before .before .before .before .before .before .args .edition) (postsOf (Stroke (c .before .before .before .before .before .before .before .before .before .before .before .before .before .before .args .edition)) (c .before .before .before .before .before .before .before .before .before .before .before .before .before .before .args .n) (c .before .before .before .before .before .before .before .before .before .before .before .before .before .before .args .s .now)) (pathOf (c .before .before .before .before .before .before .before .before .before .before .before .before .before .before .args .path .now)) (c .before .before .before .before .before .before .before .before .before .before .before .before .before .before .pre .0 .1 .count) (c .before .before .before .before .before .before .before .before .before .before .before .before .front .ensures ∙ ap (frontBytes (Stroke (c .before .before .before .before .before .before .before .before .before .before .before .before .before .before .args .edition))) (c .before .before .before .before .before .before .before .before .before .before .before .before .before .before .pre .0 .0)) (c .before .before .before .before .loop .inv .2)))
+compare-step-requires c κs = ((step-unit _ (c .before .before .before .before .before .before .before .before .before .before .step .ensures), c .before .before .before .before .loop .inv .2 .around, inside-at (pathOf (c .before .before .before .before .before .before .before .before .before .before .before .before .before .before .args .path .now)) (c .before .before .before .before .loop .k) (c .before .before .before .before .before .before .before .before .before .before .before .before .before .before .pre .0 .1 .inside) (omega (arith, c .before .before .before .before .before .before .before .before .before .before .before .before .before .before .pre .0 .0, c .before .before .before .loop-test .taken)) (c .before .before .vertex2 .ensures), step-room (c .before .before .before .before .before .before .before .before .before .before .step .ensures) (c .before .before .before .before .before .before .before .before .before .before .before .before .before .before .pre .0 .1) (omega (arith, c .before .before .before .before .before .before .before .before .before .before .before .before .before .before .pre .0 .2, c .before .before .before .before .loop .inv .1))), (going-entry (c .before .before .before .before .before .before .before .before .before .before .before .before .before .before .args .edition) (postsOf (Stroke (c .before .before .before .before .before .before .before .before .before .before .before .before .before .before .args .edition)) (c .before .before .before .before .before .before .before .before .before .before .before .before .before .before .args .n) (c .before .before .before .before .before .before .before .before .before .before .before .before .before .before .args .s .now)) (pathOf (c .before .before .before .before .before .before .before .before .before .before .before .before .before .before .args .path .now)) (c .before .before .before .before .before .before .before .before .before .before .before .before .before .before .pre .0 .1 .count) (c .before .before .before .before .before .before .before .before .before .before .before .before .front .ensures ∙ ap (frontBytes (Stroke (c .before .before .before .before .before .before .before .before .before .before .before .before .before .before .args .edition))) (c .before .before .before .before .before .before .before .before .before .before .before .before .before .before .pre .0 .0)) (c .before .before .before .before .loop .inv .2), going-at (c .before .before .before .before .before .before .before .before .before .before .before .before .before .before .args .edition) (postsOf (Stroke (c .before .before .before .before .before .before .before .before .before .before .before .before .before .before .args .edition)) (c .before .before .before .before .before .before .before .before .before .before .before .before .before .before .args .n) (c .before .before .before .before .before .before .before .before .before .before .before .before .before .before .args .s .now)) (pathOf (c .before .before .before .before .before .before .before .before .before .before .before .before .before .before .args .path .now)) (c .before .before .before .before .before .before .before .before .before .before .before .before .before .before .pre .0 .1 .count) (c .before .before .before .before .before .before .before .before .before .before .before .before .front .ensures ∙ ap (frontBytes (Stroke (c .before .before .before .before .before .before .before .before .before .before .before .before .before .before .args .edition))) (c .before .before .before .before .before .before .before .before .before .before .before .before .before .before .pre .0 .0)) (c .before .before .before .before .loop .inv .2)))
 
 add-k : tie.Need-add-k Inv-loop μ-loop
 add-k c = omega (arith, c .before .before .before .before .before .before .before .before .before .before .before .before .before .before .before .before .pre .0 .0, c .before .before .before .before .before .before .before .before .before .before .before .before .before .before .before .before .pre .0 .1 .count, c .before .before .before .before .before .loop-test .taken)
@@ -75,7 +76,7 @@ loop-again : tie.Need-loop-again Inv-loop μ-loop
 loop-again c = (omega (arith, c .before .before .before .before .before .loop-test .taken), omega (arith, c .before .before .before .before .before .before .loop .inv .1), going-step (c .before .before .before .before .before .before .before .before .before .before .before .before .before .before .before .before .args .edition) (postsOf (Stroke (c .before .before .before .before .before .before .before .before .before .before .before .before .before .before .before .before .args .edition)) (c .before .before .before .before .before .before .before .before .before .before .before .before .before .before .before .before .args .n) (c .before .before .before .before .before .before .before .before .before .before .before .before .before .before .before .before .args .s .now)) (pathOf (c .before .before .before .before .before .before .before .before .before .before .before .before .before .before .before .before .args .path .now)) (c .before .before .before .before .before .before .loop .k) (c .before .before .before .before .before .before .before .before .before .before .before .before .step .ensures) (c .before .before .before .before .before .before .before .before .before .before .before .before .before .before .before .before .pre .0 .1 .inside) (omega (arith, c .before .before .before .before .before .before .before .before .before .before .before .before .before .before .before .before .pre .0 .0, c .before .before .before .before .before .loop-test .taken)) (c .before .before .before .before .vertex2 .ensures) (c .before .before .before .post-at2 .ensures ∙ sym (post-each (c .before .before .before .before .before .before .before .before .before .before .before .before .before .before .before .before .args .edition) (c .before .before .before .before .before .before .before .before .before .before .before .before .before .before .before .before .args .n) (c .before .before .before .before .before .before .before .before .before .before .before .before .before .before .before .before .args .s .now) (c .before .before .before .before .before .before .loop .k) (c .before .before .before .before .before .loop-test .taken))) (c .before .before .before .before .before .before .loop .inv .2) (c .before .compare-step .ensures))
 
 compare-end-requires : tie.Need-compare-end-requires Inv-loop μ-loop
-compare-end-requires c κs = ((step-unit _ (c .before .before .before .before .before .before .before .before .step .ensures), c .before .before .loop .inv .2 .around, omega (arith, c .before .before .before .before .before .before .before .before .before .before .before .before .pre .0 .2, c .before .before .loop .inv .1)), (omega (arith, entry-most (c .before .before .before .before .before .before .before .before .before .before .before .before .args .edition) .0, going-entry (c .before .before .before .before .before .before .before .before .before .before .before .before .args .edition) (postsOf (Stroke (c .before .before .before .before .before .before .before .before .before .before .before .before .args .edition)) (c .before .before .before .before .before .before .before .before .before .before .before .before .args .n) (c .before .before .before .before .before .before .before .before .before .before .before .before .args .s .now)) (pathOf (c .before .before .before .before .before .before .before .before .before .before .before .before .args .path .now)) (c .before .before .before .before .before .before .before .before .before .before .before .before .pre .0 .1 .count) (c .before .before .before .before .before .before .before .before .before .before .front .ensures ∙ ap (frontBytes (Stroke (c .before .before .before .before .before .before .before .before .before .before .before .before .args .edition))) (c .before .before .before .before .before .before .before .before .before .before .before .before .pre .0 .0)) (c .before .before .loop .inv .2)), going-at (c .before .before .before .before .before .before .before .before .before .before .before .before .args .edition) (postsOf (Stroke (c .before .before .before .before .before .before .before .before .before .before .before .before .args .edition)) (c .before .before .before .before .before .before .before .before .before .before .before .before .args .n) (c .before .before .before .before .before .before .before .before .before .before .before .before .args .s .now)) (pathOf (c .before .before .before .before .before .before .before .before .before .before .before .before .args .path .now)) (c .before .before .before .before .before .before .before .before .before .before .before .before .pre .0 .1 .count) (c .before .before .before .before .before .before .before .before .before .before .front .ensures ∙ ap (frontBytes (Stroke (c .before .before .before .before .before .before .before .before .before .before .before .before .args .edition))) (c .before .before .before .before .before .before .before .before .before .before .before .before .pre .0 .0)) (c .before .before .loop .inv .2)))
+compare-end-requires c κs = ((step-unit _ (c .before .before .before .before .before .before .before .before .step .ensures), c .before .before .loop .inv .2 .around, step-room (c .before .before .before .before .before .before .before .before .step .ensures) (c .before .before .before .before .before .before .before .before .before .before .before .before .pre .0 .1) (omega (arith, c .before .before .before .before .before .before .before .before .before .before .before .before .pre .0 .2, c .before .before .loop .inv .1))), (omega (arith, entry-most (c .before .before .before .before .before .before .before .before .before .before .before .before .args .edition) .0, going-entry (c .before .before .before .before .before .before .before .before .before .before .before .before .args .edition) (postsOf (Stroke (c .before .before .before .before .before .before .before .before .before .before .before .before .args .edition)) (c .before .before .before .before .before .before .before .before .before .before .before .before .args .n) (c .before .before .before .before .before .before .before .before .before .before .before .before .args .s .now)) (pathOf (c .before .before .before .before .before .before .before .before .before .before .before .before .args .path .now)) (c .before .before .before .before .before .before .before .before .before .before .before .before .pre .0 .1 .count) (c .before .before .before .before .before .before .before .before .before .before .front .ensures ∙ ap (frontBytes (Stroke (c .before .before .before .before .before .before .before .before .before .before .before .before .args .edition))) (c .before .before .before .before .before .before .before .before .before .before .before .before .pre .0 .0)) (c .before .before .loop .inv .2)), going-at (c .before .before .before .before .before .before .before .before .before .before .before .before .args .edition) (postsOf (Stroke (c .before .before .before .before .before .before .before .before .before .before .before .before .args .edition)) (c .before .before .before .before .before .before .before .before .before .before .before .before .args .n) (c .before .before .before .before .before .before .before .before .before .before .before .before .args .s .now)) (pathOf (c .before .before .before .before .before .before .before .before .before .before .before .before .args .path .now)) (c .before .before .before .before .before .before .before .before .before .before .before .before .pre .0 .1 .count) (c .before .before .before .before .before .before .before .before .before .before .front .ensures ∙ ap (frontBytes (Stroke (c .before .before .before .before .before .before .before .before .before .before .before .before .args .edition))) (c .before .before .before .before .before .before .before .before .before .before .before .before .pre .0 .0)) (c .before .before .loop .inv .2)))
 
 same-length : tie.Need-same-length Inv-loop μ-loop
 same-length c = omega arith

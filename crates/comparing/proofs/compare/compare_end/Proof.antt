@@ -19,7 +19,7 @@ same-word-requires : tie.Need-same-word-requires
 same-word-requires c κs = word-room _ (omega arith)
 
 same-numbers-requires : tie.Need-same-numbers-requires
-same-numbers-requires c κs = (own-inside (close-most (c .before .before .before .before .before .before .before .args .t) (c .before .before .before .before .before .before .before .args .c .walk)) (c .before .before .before .close .ensures) (c .before .before .before .before .before .before .before .pre .0 .2), omega (arith, own-small (close-most (c .before .before .before .before .before .before .before .args .t) (c .before .before .before .before .before .before .before .args .c .walk)) (c .before .before .before .close .ensures), c .before .before .before .before .before .before .before .pre .1 .1))
+same-numbers-requires c κs = (own-inside (close-most (c .before .before .before .before .before .before .before .args .t) (c .before .before .before .before .before .before .before .args .c .walk)) (c .before .before .before .close .ensures) (c .before .before .before .before .before .before .before .pre .0 .2 .end (c .before .before .before .before .before .before .before .args .c .walk)), omega (arith, own-small (close-most (c .before .before .before .before .before .before .before .args .t) (c .before .before .before .before .before .before .before .args .c .walk)) (c .before .before .before .close .ensures), c .before .before .before .before .before .before .before .pre .1 .1))
 
 mul-end : tie.Need-mul-end
 mul-end c = omega (arith, own-small (close-most (c .before .before .before .before .before .before .before .before .args .t) (c .before .before .before .before .before .before .before .before .args .c .walk)) (c .before .before .before .before .close .ensures))
@@ -36,7 +36,7 @@ returns c =
     let p = c .before .before .before .before .before .close .ensures in
     record {
       table = runs-as (ap (λ k. k ∷ []) (own-count m p)) (c .before .before .before .same-word .ensures);
-      bodies = runs-as (own-words m p (c .before .before .before .before .before .before .before .before .before .pre .0 .2)) (c .before .same-numbers .ensures);
+      bodies = runs-as (own-words m p (c .before .before .before .before .before .before .before .before .before .pre .0 .2 .end (c .before .before .before .before .before .before .before .before .before .args .c .walk))) (c .before .same-numbers .ensures);
     }
 
 pub compare-end-spec : {M : Type 1} → statement M

@@ -19,7 +19,7 @@ same-entry-requires : tie.Need-same-entry-requires
 same-entry-requires c κs = search needs
 
 same-numbers-requires : tie.Need-same-numbers-requires
-same-numbers-requires c κs = (own-inside (emitted-most (c .before .before .before .before .before .before .before .before .args .t) (c .before .before .before .before .before .before .before .before .args .c .walk) (c .before .before .before .before .before .before .before .before .args .v)) (c .before .before .before .before .step .ensures .made) (c .before .before .before .before .before .before .before .before .pre .0 .3), omega (arith, own-small (emitted-most (c .before .before .before .before .before .before .before .before .args .t) (c .before .before .before .before .before .before .before .before .args .c .walk) (c .before .before .before .before .before .before .before .before .args .v)) (c .before .before .before .before .step .ensures .made), c .before .before .before .before .before .before .before .before .pre .1 .1))
+same-numbers-requires c κs = (own-inside (emitted-most (c .before .before .before .before .before .before .before .before .args .t) (c .before .before .before .before .before .before .before .before .args .c .walk) (c .before .before .before .before .before .before .before .before .args .v)) (c .before .before .before .before .step .ensures .made) (c .before .before .before .before .before .before .before .before .pre .0 .3 .step (c .before .before .before .before .before .before .before .before .args .c .walk) (c .before .before .before .before .before .before .before .before .args .v)), omega (arith, own-small (emitted-most (c .before .before .before .before .before .before .before .before .args .t) (c .before .before .before .before .before .before .before .before .args .c .walk) (c .before .before .before .before .before .before .before .before .args .v)) (c .before .before .before .before .step .ensures .made), c .before .before .before .before .before .before .before .before .pre .1 .1))
 
 entry-bytes-requires : tie.Need-entry-bytes-requires
 entry-bytes-requires c κs = search needs
@@ -43,7 +43,7 @@ returns c =
     record {
       walk = p .walk;
       table = runs-as (ap (entryOf (c .before .before .before .before .before .before .before .before .before .before .before .before .args .edition) (c .before .before .before .before .before .before .before .before .before .before .before .before .args .v) (c .before .before .before .before .before .before .before .before .before .before .before .before .args .post)) (own-count m (p .made))) (runs-to (omega (arith, c .before .before .entry-bytes .ensures)) (c .before .before .before .before .before .same-entry .ensures));
-      bodies = runs-as (own-words m (p .made) (c .before .before .before .before .before .before .before .before .before .before .before .before .pre .0 .3)) (c .before .before .before .same-numbers .ensures);
+      bodies = runs-as (own-words m (p .made) (c .before .before .before .before .before .before .before .before .before .before .before .before .pre .0 .3 .step (c .before .before .before .before .before .before .before .before .before .before .before .before .args .c .walk) (c .before .before .before .before .before .before .before .before .before .before .before .before .args .v))) (c .before .before .before .same-numbers .ensures);
     }
 
 pub compare-step-spec : {M : Type 1} → statement M

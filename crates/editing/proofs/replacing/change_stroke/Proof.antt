@@ -1,6 +1,8 @@
 -- `editing::replacing::change_stroke` meets its contract: a kerb is refused, and in a stroke the vertex is changed. Assumes nothing.
 use borrow.Author.Needs.{needs}
-use Rattle.editing.proofs.KnownStore.{known, replace-other}
+use Rattle.checking.proofs.KnownStore.{known}
+use Rattle.checking.proofs.StoreRooms.{posts-enough, stroke-enough}
+use Rattle.editing.proofs.StoreRefused.{replace-other}
 use Rattle.editing.proofs.replacing.change_stroke.Statement.{statement}
 use Rattle.editing.proofs.replacing.change_stroke.Tie as tie
 
@@ -10,8 +12,8 @@ enum-told c = search needs
 enum-known-form : tie.Need-enum-known-form
 enum-known-form c = search needs
 
-change-requires : tie.Need-change-requires
-change-requires c κs = (known (c .before .before .before .before .before .before .before .before .before .pre .0) (c .before .before .before .before .before .form .given .1), c .before .before .before .before .before .before .before .before .before .pre .1, c .before .before .before .before .before .before .before .before .before .pre .2)
+change-drawn-requires : tie.Need-change-drawn-requires
+change-drawn-requires c κs = (known (c .before .before .before .before .before .before .before .before .before .pre .0) (c .before .before .before .before .before .form .given .1), posts-enough (c .before .before .before .before .before .before .before .before .before .pre .0 .sound .head) (c .before .before .before .before .before .before .before .before .before .pre .1), stroke-enough (c .before .before .before .before .before .before .before .before .before .pre .0 .sound .head) (c .before .before .before .before .before .before .before .before .before .pre .2))
 
 returns : tie.Need-returns
 returns c = replace-other (c .before .before .before .before .pre .0) (c .before .before .before .before .args .index) (c .before .before .before .before .args .v) (c .enum-told .given .1)
@@ -37,7 +39,7 @@ change-stroke-spec =
     (tie.spec
     enum-told
     enum-known-form
-    change-requires
+    change-drawn-requires
     returns
     same-length
     same-length-2

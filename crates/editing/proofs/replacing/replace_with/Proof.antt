@@ -1,6 +1,7 @@
 -- `editing::replacing::replace_with` meets its contract: a refusal is that of the shared rows; in a store that passed them the vertex is changed. Assumes nothing.
 use borrow.Author.Needs.{needs}
-use Rattle.editing.proofs.KnownStore.{passed, replace-refused}
+use Rattle.checking.proofs.KnownStore.{passed}
+use Rattle.editing.proofs.StoreRefused.{replace-refused}
 use Rattle.editing.proofs.replacing.replace_with.Statement.{statement}
 use Rattle.editing.proofs.replacing.replace_with.Tie as tie
 

@@ -11,6 +11,7 @@ use Rattle.outline.specs.declared.Form.the-variants.{Stroke}
 use Rattle.outline.proofs.FormLengths.{entry-most, front-small}
 use Rattle.outline.proofs.Parts.{room-entry}
 use Rattle.plane.proofs.Directions.{step-unit}
+use Rattle.own_room.proofs.StepRooms.{step-room}
 use Rattle.keeping.proofs.Whole.{fill-none, rest-apart, fill-all}
 use Rattle.keeping.proofs.filling.fill.Statement.{statement}
 use Rattle.keeping.proofs.filling.fill.Tie as tie
@@ -46,7 +47,7 @@ fill-from-requires : tie.Need-fill-from-requires
 fill-from-requires c κs =
     let p = pathOf (c .before .before .before .before .before .before .before .before .before .before .before .before .before .before .args .path .now) in
     let i : 0 < length p = omega (arith, c .before .before .before .before .before .before .before .before .before .before .before .before .before .before .pre .0, some _ (c .before .before .before .before .before .before .before .before .before .before .if1 .left)) in
-    ((c .before .before .before .before .before .before .before .before .before .before .before .before .before .before .pre .0, some _ (c .before .before .before .before .before .before .before .before .before .before .if1 .left), c .before .before .before .before .before .before .before .before .before .before .before .before .before .before .pre .1 .inside), ((step-unit _ (c .before .before .before .before .before .before .before .before .before .step .ensures), rw (c .before .before .new .ensures) (start-around _ (inside-at p 0 (c .before .before .before .before .before .before .before .before .before .before .before .before .before .before .pre .1 .inside) i (c .before .before .before .before .before .before .before .before .vertex .ensures))), c .before .before .before .before .before .before .before .before .before .before .before .before .before .before .pre .2), rest-apart (c .before .before .before .before .before .before .before .before .before .before .before .before .before .before .args .edition) _ (c .before .before .before .before .before .before .before .before .before .before .before .before .before .before .args .posts .now) p i (c .before .before .before .before .before .before .before .before .vertex .ensures) (c .before .before .before .before .before .before .before .post .ensures) (c .before .before .new .ensures) (c .before .before .before .before .before .before .before .before .before .step .ensures) (c .before .before .before .before .before .put-entry .ensures) (c .before .before .before .before .before .before .before .before .before .before .before .before .before .before .pre .0) (c .before .before .before .before .before .before .before .before .before .before .before .front .ensures) (c .before .before .before .before .before .before .before .before .before .before .before .before .before .before .pre .1 .count)))
+    ((c .before .before .before .before .before .before .before .before .before .before .before .before .before .before .pre .0, some _ (c .before .before .before .before .before .before .before .before .before .before .if1 .left), c .before .before .before .before .before .before .before .before .before .before .before .before .before .before .pre .1 .inside), ((step-unit _ (c .before .before .before .before .before .before .before .before .before .step .ensures), rw (c .before .before .new .ensures) (start-around _ (inside-at p 0 (c .before .before .before .before .before .before .before .before .before .before .before .before .before .before .pre .1 .inside) i (c .before .before .before .before .before .before .before .before .vertex .ensures))), step-room (c .before .before .before .before .before .before .before .before .before .step .ensures) (c .before .before .before .before .before .before .before .before .before .before .before .before .before .before .pre .1) (c .before .before .before .before .before .before .before .before .before .before .before .before .before .before .pre .2)), rest-apart (c .before .before .before .before .before .before .before .before .before .before .before .before .before .before .args .edition) _ (c .before .before .before .before .before .before .before .before .before .before .before .before .before .before .args .posts .now) p i (c .before .before .before .before .before .before .before .before .vertex .ensures) (c .before .before .before .before .before .before .before .post .ensures) (c .before .before .new .ensures) (c .before .before .before .before .before .before .before .before .before .step .ensures) (c .before .before .before .before .before .put-entry .ensures) (c .before .before .before .before .before .before .before .before .before .before .before .before .before .before .pre .0) (c .before .before .before .before .before .before .before .before .before .before .before .front .ensures) (c .before .before .before .before .before .before .before .before .before .before .before .before .before .before .pre .1 .count)))
 
 same-length-2 : tie.Need-same-length-2
 same-length-2 c = search needs

@@ -21,7 +21,7 @@ put-word-requires : tie.Need-put-word-requires
 put-word-requires c κs = room-as (ap (λ (k : ℕ). k ∷ []) (own-count (close-most (c .before .before .before .before .before .before .args .t) (c .before .before .before .before .before .before .args .f .walk)) (c .before .before .close .ensures))) (table-room (c .before .before .before .before .before .before .pre .1))
 
 put-numbers-requires : tie.Need-put-numbers-requires
-put-numbers-requires c κs = (own-inside (close-most (c .before .before .before .before .before .before .before .before .before .before .before .args .t) (c .before .before .before .before .before .before .before .before .before .before .before .args .f .walk)) (c .before .before .before .before .before .before .before .close .ensures) (c .before .before .before .before .before .before .before .before .before .before .before .pre .0 .2), room-as (own-words (close-most (c .before .before .before .before .before .before .before .before .before .before .before .args .t) (c .before .before .before .before .before .before .before .before .before .before .before .args .f .walk)) (c .before .before .before .before .before .before .before .close .ensures) (c .before .before .before .before .before .before .before .before .before .before .before .pre .0 .2)) (body-room (c .before .before .before .before .before .before .before .before .before .before .before .pre .1)))
+put-numbers-requires c κs = (own-inside (close-most (c .before .before .before .before .before .before .before .before .before .before .before .args .t) (c .before .before .before .before .before .before .before .before .before .before .before .args .f .walk)) (c .before .before .before .before .before .before .before .close .ensures) (c .before .before .before .before .before .before .before .before .before .before .before .pre .0 .2 .end (c .before .before .before .before .before .before .before .before .before .before .before .args .f .walk)), room-as (own-words (close-most (c .before .before .before .before .before .before .before .before .before .before .before .args .t) (c .before .before .before .before .before .before .before .before .before .before .before .args .f .walk)) (c .before .before .before .before .before .before .before .close .ensures) (c .before .before .before .before .before .before .before .before .before .before .before .pre .0 .2 .end (c .before .before .before .before .before .before .before .before .before .before .before .args .f .walk))) (body-room (c .before .before .before .before .before .before .before .before .before .before .before .pre .1)))
 
 same-length : tie.Need-same-length
 same-length c = search needs
@@ -30,7 +30,7 @@ same-length-2 : tie.Need-same-length-2
 same-length-2 c = search needs
 
 returns : tie.Need-returns
-returns c = end-filled (close-most (c .before .before .before .before .before .before .before .before .before .before .before .before .before .before .args .t) (c .before .before .before .before .before .before .before .before .before .before .before .before .before .before .args .f .walk)) (c .before .before .before .before .before .before .before .before .before .before .before .before .before .before .pre .0 .2) (c .before .before .before .before .before .before .before .before .before .before .close .ensures) (c .before .before .before .before .before .before .before .put-word .ensures) (c .before .before .put-numbers .ensures)
+returns c = end-filled (close-most (c .before .before .before .before .before .before .before .before .before .before .before .before .before .before .args .t) (c .before .before .before .before .before .before .before .before .before .before .before .before .before .before .args .f .walk)) (c .before .before .before .before .before .before .before .before .before .before .before .before .before .before .pre .0 .2 .end (c .before .before .before .before .before .before .before .before .before .before .before .before .before .before .args .f .walk)) (c .before .before .before .before .before .before .before .before .before .before .close .ensures) (c .before .before .before .before .before .before .before .put-word .ensures) (c .before .before .put-numbers .ensures)
 
 pub fill-end-spec : {M : Type 1} → statement M
 fill-end-spec =

@@ -8,6 +8,7 @@ use Rattle.variable_stroke.specs.Bounds.{AroundWalk}
 use Rattle.paths.specs.Paths.{pathOf}
 use Rattle.keeping.proofs.FilledSteps.{FilledTo, fill-begins, step-apart, step-on, end-apart, end-on}
 use Rattle.paths.proofs.PathWalk.{inside-at, around-next}
+use Rattle.own_room.proofs.StepRooms.{room-more}
 use Rattle.keeping.proofs.TwoRuns.{both-length}
 use Rattle.keeping.proofs.filling.fill_from.Statement.{statement}
 use Rattle.keeping.proofs.filling.fill_from.Tie as tie
@@ -31,7 +32,7 @@ fill-step-requires : tie.Need-fill-step-requires Inv-loop μ-loop
 fill-step-requires c κs =
     let p = pathOf (c .before .before .before .before .before .before .before .before .args .path .now) in
     let i : c .before .before .before .before .before .loop .k < length p = omega (arith, c .before .before .before .before .before .before .before .before .pre .0 .0, c .before .before .before .before .loop-test .taken) in
-    ((c .before .before .before .before .before .before .before .before .pre .1 .0 .0, c .before .before .before .before .before .loop .inv .2, inside-at p (c .before .before .before .before .before .loop .k) (c .before .before .before .before .before .before .before .before .pre .0 .2) i (c .before .before .before .vertex .ensures), omega (arith, c .before .before .before .before .before .before .before .before .pre .1 .0 .2, c .before .before .before .before .before .loop .inv .1)), step-apart (c .before .before .before .before .before .before .before .before .args .edition) (c .before .before .before .before .before .before .before .before .args .t) (c .before .before .before .before .before .before .before .before .args .posts .now) p (c .before .before .before .before .before .loop .inv .3) i (c .before .before .before .vertex .ensures) (c .before .before .post .ensures))
+    ((c .before .before .before .before .before .before .before .before .pre .1 .0 .0, c .before .before .before .before .before .loop .inv .2, inside-at p (c .before .before .before .before .before .loop .k) (c .before .before .before .before .before .before .before .before .pre .0 .2) i (c .before .before .before .vertex .ensures), room-more (c .before .before .before .before .before .before .before .before .pre .1 .0 .2) (omega (arith, c .before .before .before .before .before .loop .inv .1))), step-apart (c .before .before .before .before .before .before .before .before .args .edition) (c .before .before .before .before .before .before .before .before .args .t) (c .before .before .before .before .before .before .before .before .args .posts .now) p (c .before .before .before .before .before .loop .inv .3) i (c .before .before .before .vertex .ensures) (c .before .before .post .ensures))
 
 add-k : tie.Need-add-k Inv-loop μ-loop
 add-k c = omega (arith, c .before .before .before .before .before .before .before .before .loop-test .taken)
@@ -46,7 +47,7 @@ loop-again c =
     (omega (arith, c .before .before .before .before .before .before .before .before .loop-test .taken), omega (arith, c .before .before .before .before .before .before .before .before .before .loop .inv .1), around-next p (c .before .before .before .before .before .before .before .before .before .loop .k) (c .before .before .before .before .before .before .before .before .before .before .before .before .pre .0 .2) i (c .before .before .before .before .before .before .before .vertex .ensures) (c .before .before .before .before .before .before .before .before .before .loop .inv .2) (c .before .before .before .fill-step .ensures .walk), step-on (c .before .before .before .before .before .before .before .before .before .before .before .before .args .edition) (c .before .before .before .before .before .before .before .before .before .before .before .before .args .t) (c .before .before .before .before .before .before .before .before .before .before .before .before .args .posts .now) p (c .before .before .before .before .before .before .before .before .before .loop .inv .3) i (c .before .before .before .before .before .before .before .vertex .ensures) (c .before .before .before .before .before .before .post .ensures) (c .before .before .before .fill-step .ensures))
 
 fill-end-requires : tie.Need-fill-end-requires Inv-loop μ-loop
-fill-end-requires c κs = ((c .before .before .before .before .before .before .pre .1 .0 .0, c .before .before .before .loop .inv .2, omega (arith, c .before .before .before .before .before .before .pre .1 .0 .2, c .before .before .before .loop .inv .1)), end-apart (c .before .before .before .before .before .before .args .edition) (c .before .before .before .before .before .before .args .t) (c .before .before .before .before .before .before .args .posts .now) (pathOf (c .before .before .before .before .before .before .args .path .now)) (c .before .before .before .loop .inv .3) (omega (arith, c .before .before .before .before .before .before .pre .0 .0, c .before .before .loop-test .left)))
+fill-end-requires c κs = ((c .before .before .before .before .before .before .pre .1 .0 .0, c .before .before .before .loop .inv .2, room-more (c .before .before .before .before .before .before .pre .1 .0 .2) (omega (arith, c .before .before .before .loop .inv .1))), end-apart (c .before .before .before .before .before .before .args .edition) (c .before .before .before .before .before .before .args .t) (c .before .before .before .before .before .before .args .posts .now) (pathOf (c .before .before .before .before .before .before .args .path .now)) (c .before .before .before .loop .inv .3) (omega (arith, c .before .before .before .before .before .before .pre .0 .0, c .before .before .loop-test .left)))
 
 same-length : tie.Need-same-length Inv-loop μ-loop
 same-length c = omega (arith, c .before .before .before .before .before .before .before .loop .inv .1)

@@ -22,7 +22,7 @@ put-entry-requires : tie.Need-put-entry-requires
 put-entry-requires c κs = (c .before .before .before .before .before .before .before .pre .0 .2, room-as (ap (λ (k : ℕ). entryOf (c .before .before .before .before .before .before .before .args .edition) (c .before .before .before .before .before .before .before .args .b) (c .before .before .before .before .before .before .before .args .post) k) (own-count (emitted-most _ _ _) (c .before .before .before .step .ensures .made))) (table-room (c .before .before .before .before .before .before .before .pre .1)))
 
 put-numbers-requires : tie.Need-put-numbers-requires
-put-numbers-requires c κs = (own-inside (emitted-most _ _ _) (c .before .before .before .before .before .before .before .before .step .ensures .made) (c .before .before .before .before .before .before .before .before .before .before .before .before .pre .0 .3), room-as (own-words (emitted-most _ _ _) (c .before .before .before .before .before .before .before .before .step .ensures .made) (c .before .before .before .before .before .before .before .before .before .before .before .before .pre .0 .3)) (body-room (c .before .before .before .before .before .before .before .before .before .before .before .before .pre .1)))
+put-numbers-requires c κs = (own-inside (emitted-most _ _ _) (c .before .before .before .before .before .before .before .before .step .ensures .made) (c .before .before .before .before .before .before .before .before .before .before .before .before .pre .0 .3 .step (c .before .before .before .before .before .before .before .before .before .before .before .before .args .f .walk) (c .before .before .before .before .before .before .before .before .before .before .before .before .args .b)), room-as (own-words (emitted-most _ _ _) (c .before .before .before .before .before .before .before .before .step .ensures .made) (c .before .before .before .before .before .before .before .before .before .before .before .before .pre .0 .3 .step (c .before .before .before .before .before .before .before .before .before .before .before .before .args .f .walk) (c .before .before .before .before .before .before .before .before .before .before .before .before .args .b))) (body-room (c .before .before .before .before .before .before .before .before .before .before .before .before .pre .1)))
 
 same-length : tie.Need-same-length
 same-length c = search needs
@@ -31,7 +31,7 @@ same-length-2 : tie.Need-same-length-2
 same-length-2 c = search needs
 
 returns : tie.Need-returns
-returns c = step-filled (c .before .before .before .before .before .before .before .before .before .before .before .before .before .before .before .args .edition) (c .before .before .before .before .before .before .before .before .before .before .before .before .before .before .before .args .b) (c .before .before .before .before .before .before .before .before .before .before .before .before .before .before .before .args .post) (c .before .before .before .before .before .before .before .before .before .before .before .before .before .before .before .pre .0 .3) (c .before .before .before .before .before .before .before .before .before .before .before .step .ensures) (c .before .before .before .before .before .before .before .put-entry .ensures) (c .before .before .put-numbers .ensures)
+returns c = step-filled (c .before .before .before .before .before .before .before .before .before .before .before .before .before .before .before .args .edition) (c .before .before .before .before .before .before .before .before .before .before .before .before .before .before .before .args .b) (c .before .before .before .before .before .before .before .before .before .before .before .before .before .before .before .args .post) (c .before .before .before .before .before .before .before .before .before .before .before .before .before .before .before .pre .0 .3 .step (c .before .before .before .before .before .before .before .before .before .before .before .before .before .before .before .args .f .walk) (c .before .before .before .before .before .before .before .before .before .before .before .before .before .before .before .args .b)) (c .before .before .before .before .before .before .before .before .before .before .before .step .ensures) (c .before .before .before .before .before .before .before .put-entry .ensures) (c .before .before .put-numbers .ensures)
 
 pub fill-step-spec : {M : Type 1} → statement M
 fill-step-spec =

@@ -5,7 +5,7 @@ use native.Mathlib.Omega.{arith}
 use Rattle.folds.proofs.Laid.{lays-plain}
 use Rattle.kerb_paths.specs.Points.{kerbPath, wayOf}
 use Rattle.outline.proofs.OwnNumbers.{own-room, own-inside}
-use Rattle.kerb_outline.proofs.PieceRoom.{piece-few, entry-fits, count-fits}
+use Rattle.kerb_outline.proofs.PieceRoom.{piece-few, piece-own, entry-fits, count-fits}
 use Rattle.kerb_keeping.proofs.KerbFilled.{numbers-room, piece-filled}
 use Rattle.kerb_keeping.proofs.filling.fill_piece.Statement.{statement}
 use Rattle.kerb_keeping.proofs.filling.fill_piece.Tie as tie
@@ -20,7 +20,7 @@ put-count-requires : tie.Need-put-count-requires
 put-count-requires c κs = (entry-fits (c .before .before .before .before .before .before .before .before .args .t) (c .before .before .before .before .before .before .before .before .args .y) (kerbPath (c .before .before .before .before .before .before .before .before .args .y .radius) (c .before .before .before .before .before .before .before .before .args .points .now)) (c .before .before .before .before .before .before .before .before .args .f .tour) (c .before .before .before .before .before .before .before .before .pre .1 .0) (c .before .before .before .before .before .before .before .before .pre .1 .1), count-fits (c .before .before .before .before .before .before .before .before .args .t) (c .before .before .before .before .before .before .before .before .args .y) (kerbPath (c .before .before .before .before .before .before .before .before .args .y .radius) (c .before .before .before .before .before .before .before .before .args .points .now)) (c .before .before .before .before .before .before .before .before .args .f .tour) (c .before .before .before .before .before .before .before .before .pre .1 .0) (c .before .before .before .before .before .before .before .before .pre .1 .1) (lays-plain refl (c .before .before .before .before .piece .ensures .made)))
 
 put-numbers-requires : tie.Need-put-numbers-requires
-put-numbers-requires c κs = (own-inside (piece-few (c .before .before .before .before .before .before .before .before .before .before .before .before .before .args .t) (c .before .before .before .before .before .before .before .before .before .before .before .before .before .args .y) (wayOf (c .before .before .before .before .before .before .before .before .before .before .before .before .before .args .y) (kerbPath (c .before .before .before .before .before .before .before .before .before .before .before .before .before .args .y .radius) (c .before .before .before .before .before .before .before .before .before .before .before .before .before .args .points .now))) (c .before .before .before .before .before .before .before .before .before .before .before .before .before .args .f .tour)) (lays-plain refl (c .before .before .before .before .before .before .before .before .before .piece .ensures .made)) (c .before .before .before .before .before .before .before .before .before .before .before .before .before .pre .0 .2), numbers-room (c .before .before .before .before .before .before .before .before .before .before .before .before .before .args .t) (c .before .before .before .before .before .before .before .before .before .before .before .before .before .args .y) (kerbPath (c .before .before .before .before .before .before .before .before .before .before .before .before .before .args .y .radius) (c .before .before .before .before .before .before .before .before .before .before .before .before .before .args .points .now)) (c .before .before .before .before .before .before .before .before .before .before .before .before .before .args .f .tour) (c .before .before .before .before .before .before .before .before .before .before .before .before .before .pre .1 .0) (c .before .before .before .before .before .before .before .before .before .before .before .before .before .pre .1 .1) (c .before .before .before .before .before .before .before .before .before .before .before .before .before .pre .0 .2) (lays-plain refl (c .before .before .before .before .before .before .before .before .before .piece .ensures .made)))
+put-numbers-requires c κs = (own-inside (piece-few (c .before .before .before .before .before .before .before .before .before .before .before .before .before .args .t) (c .before .before .before .before .before .before .before .before .before .before .before .before .before .args .y) (wayOf (c .before .before .before .before .before .before .before .before .before .before .before .before .before .args .y) (kerbPath (c .before .before .before .before .before .before .before .before .before .before .before .before .before .args .y .radius) (c .before .before .before .before .before .before .before .before .before .before .before .before .before .args .points .now))) (c .before .before .before .before .before .before .before .before .before .before .before .before .before .args .f .tour)) (lays-plain refl (c .before .before .before .before .before .before .before .before .before .piece .ensures .made)) (piece-own (c .before .before .before .before .before .before .before .before .before .before .before .before .before .args .t) (c .before .before .before .before .before .before .before .before .before .before .before .before .before .args .y) (wayOf (c .before .before .before .before .before .before .before .before .before .before .before .before .before .args .y) (kerbPath (c .before .before .before .before .before .before .before .before .before .before .before .before .before .args .y .radius) (c .before .before .before .before .before .before .before .before .before .before .before .before .before .args .points .now))) (c .before .before .before .before .before .before .before .before .before .before .before .before .before .args .f .tour) (c .before .before .before .before .before .before .before .before .before .before .before .before .before .pre .0 .2)), numbers-room (c .before .before .before .before .before .before .before .before .before .before .before .before .before .args .t) (c .before .before .before .before .before .before .before .before .before .before .before .before .before .args .y) (kerbPath (c .before .before .before .before .before .before .before .before .before .before .before .before .before .args .y .radius) (c .before .before .before .before .before .before .before .before .before .before .before .before .before .args .points .now)) (c .before .before .before .before .before .before .before .before .before .before .before .before .before .args .f .tour) (c .before .before .before .before .before .before .before .before .before .before .before .before .before .pre .1 .0) (c .before .before .before .before .before .before .before .before .before .before .before .before .before .pre .1 .1) (c .before .before .before .before .before .before .before .before .before .before .before .before .before .pre .0 .2) (lays-plain refl (c .before .before .before .before .before .before .before .before .before .piece .ensures .made)))
 
 same-length : tie.Need-same-length
 same-length c = search needs

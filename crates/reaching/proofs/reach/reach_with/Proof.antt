@@ -1,7 +1,7 @@
 -- `reaching::reach::reach_with` meets its contract: a refusal is that of the shared rows; else the store's path is walked. Assumes nothing.
 use borrow.Author.Needs.{needs}
 use Rattle.reaching.proofs.StoreReach.{reach-refused}
-use Rattle.editing.proofs.KnownStore.{passed}
+use Rattle.checking.proofs.KnownStore.{passed}
 use Rattle.reaching.proofs.reach.reach_with.Statement.{statement}
 use Rattle.reaching.proofs.reach.reach_with.Tie as tie
 

@@ -39,9 +39,9 @@ use denote.Triple.Clauses.{ensured, lasts}
 use denote.Triple.Table.{entered, cited}
 use denote.Triple.Walked.{says, needs, Stays, stay-none-slice, stay-none, gave-slice, walkOf, Walks, ends-at, walked, goes-none-slice, goes-none, goes-gave-slice, walk-meets}
 use denote.Exit.{yes}
-use Rattle.runs.specs.Runs.{spread, over, put}
+use Rattle.runs.specs.Runs.{spread}
 use Rattle.records.specs.declared.Record.{Record}
-use Rattle.records.specs.Records.{recordNumbers}
+use Rattle.records.specs.Records.{recordNumbers, recordPosts, Gathers}
 use Rattle.records.proofs.Again.{LentAgain, lends-again, comes-back}
 use Rattle.records.proofs.Record as R
 use Rattle.records.proofs.gather as gather
@@ -80,7 +80,7 @@ Told 𝓤 H A mem go = tripleOf 𝓤 H A reply.signature (reply.spec 𝓤 H A me
 module _ {M : Type 1} (𝓤 : URA M) (H : Heap 𝓤) (A : Atoms 𝓤) (W : Given 𝓤 H A) (mem : Memory → SProp 𝓤) (go : Routine → Fun 𝓤) (κ κ₁ κ₂ : Lft) (q q₁ q₂ : Share)
     (b o : ℕ) (γ : GName) (ys : List Record) (m g : ℕ) (b₁ o₁ : ℕ) (γ₁ : GName) (os : List ℤ) (b₂ o₂ : ℕ) (γ₂ : GName) (ts : List ℕ)
     (m-fits : m < 2 ^ 64) (g-fits : g < 2 ^ 32) (room : Room R.the-row (length ys)) (room₁ : Room i32 (length os)) (room₂ : Room u8 (length ts))
-    (many : m ≡ wantedOf (length ys) g) (enough : 3 * m ≤ length os) where
+    (many : m ≡ wantedOf (length ys) g) (enough : 4 * m ≤ length os) where
   abbrev x : RefT (List Record)
   x = record { ptr = (b, o); name = γ; now = ys }
 
@@ -130,7 +130,7 @@ module _ {M : Type 1} (𝓤 : URA M) (H : Heap 𝓤) (A : Atoms 𝓤) (W : Given
   abbrev Toks : Item 𝓤
   Toks = ‵ (flft κ q) ⊛ Toks₁
 
-  exits : (r : Reply) (os₁ : List ℤ) (ts₁ : List ℕ) → Is Rep.the-row r (mach r ∷ []) → length os₁ ≡ length os → length ts₁ ≡ length ts → KeepReplies (spread recordNumbers ys) g ts r ts₁
+  exits : (r : Reply) (os₁ : List ℤ) (ts₁ : List ℕ) → Is Rep.the-row r (mach r ∷ []) → length os₁ ≡ length os → length ts₁ ≡ length ts → KeepReplies (spread recordNumbers ys) (spread recordPosts ys) g ts r ts₁
       → ent 𝓤 (⋆ 𝓤 H A (Toks ∷ ‵ Path ∷ ‵ (finally i32 γ₁ os₁) ∷ ‵ (finally u8 γ₂ ts₁) ∷ [])) (Post (mach r))
   exits r os₁ ts₁ is long₁ long₂ e =
       qed W (Toks ∷ ‵ Path ∷ ‵ (finally i32 γ₁ os₁) ∷ ‵ (finally u8 γ₂ ts₁) ∷ []) ∵
@@ -154,7 +154,7 @@ module _ {M : Type 1} (𝓤 : URA M) (H : Heap 𝓤) (A : Atoms 𝓤) (W : Given
   abbrev to-told : List ℤ → Told 𝓤 H A mem go .Ghost
   to-told zs = (((κ₁, (κ₂, tt)), (q₁, (q₂, tt)), tt, (y γ₁ zs, (length ys, (g, (z, tt)))), (sv ∷ [], (vint w64 (length ys) ∷ [], (vint w32 g ∷ [], (tv ∷ [], tt))))), tt)
 
-  tells : (zs : List ℤ) → 3 * wantedOf (length ys) g ≤ length zs → ent 𝓤 (sep 𝓤 (mean 𝓤 H A Toks₁) (sep 𝓤 (sem 𝓤 H A (Own zs)) (sem 𝓤 H A Out))) (Told 𝓤 H A mem go .pre (to-told zs))
+  tells : (zs : List ℤ) → 4 * wantedOf (length ys) g ≤ length zs → ent 𝓤 (sep 𝓤 (mean 𝓤 H A Toks₁) (sep 𝓤 (sem 𝓤 H A (Own zs)) (sem 𝓤 H A Out))) (Told 𝓤 H A mem go .pre (to-told zs))
   tells zs fit =
       qed W (Toks₁ ∷ ‵ (Own zs) ∷ ‵ Out ∷ []) ∵ says ! fit $ frame ! $
       nothing ! $ move ! (2 ∷ 0 ∷ []) $ fjoin ! $ owned ! u32 (Is u32) (uint-makes 𝓤 H A W w32) g _ (refl, g-fits) $ fjoin ! $ owned ! usize (Is usize) (uint-makes 𝓤 H A W w64) (length ys) _ (refl, room .0) $ fjoin ! $ move ! (1 ∷ 0 ∷ []) $ fjoin ! $ done !
@@ -181,8 +181,8 @@ module _ {M : Type 1} (𝓤 : URA M) (H : Heap 𝓤) (A : Atoms 𝓤) (W : Given
         calls-at ! fm (Gather 𝓤 H A mem go) known (to-gather ν δ) (and-then ! (load ! (from ! (stop !)) (look ! 30 refl)) (and-then ! (load ! (from ! (stop !)) (look ! 28 refl)) (and-then ! (load ! (from ! (stop !)) (look ! 16 refl)) (no-more !)))) (λ w.
         use1 W (later (some (λ (r : Unit {0}). (Toksν ν ⊛ ‵ (unit .own r (w ∷ []))) ⊛ raw (ensured 𝓤 H A gather.ended (gather.clauses 𝓤 H A mem go) (κ, (ν ∷ [], tt)) (x, (m, (y δ os, tt))) tt r)))) (id⊢ 𝓤 _) $ await ! tt $ pick ! (λ r.
         split ! $ move ! (1 ∷ []) $
-        use1 W (some (λ (ws : Unit {0} × (Unit {0} × (List ℤ × Unit {0}))). ‵ (lasts gather.ended (κ, (ν ∷ [], tt)) (x, (m, (y δ os, tt))) ws) ⊛ raw (fact 𝓤 (ws .1 .1 .0 ≡ over put os 0 (spread recordNumbers (take m ys)))))) (id⊢ 𝓤 _) $ pick ! (λ ws.
-        split ! $ move ! (1 ∷ []) $ heard ! (ws .1 .1 .0 ≡ over put os 0 (spread recordNumbers (take m ys))) (λ said.
+        use1 W (some (λ (ws : Unit {0} × (Unit {0} × (List ℤ × Unit {0}))). ‵ (lasts gather.ended (κ, (ν ∷ [], tt)) (x, (m, (y δ os, tt))) ws) ⊛ raw (fact 𝓤 (Gathers os m (take m ys) (ws .1 .1 .0))))) (id⊢ 𝓤 _) $ pick ! (λ ws.
+        split ! $ move ! (1 ∷ []) $ heard ! (Gathers os m (take m ys) (ws .1 .1 .0)) (λ said.
         fsplit ! $ dropped ! $ fsplit ! $ dropped ! $ fsplit ! $ fsplit ! $ move ! (1 ∷ []) $ feqL ! (λ long.
         move ! (2 ∷ []) $ split ! $ move ! (1 ∷ []) $ peeks ! unit (Is unit) (shows 𝓤 H A unit) r (w ∷ []) (λ is.
         -- [what r owns; the tokens; the last list; true; what is lent; out's token and true; out; true; path; _13; …]
@@ -196,7 +196,7 @@ module _ {M : Type 1} (𝓤 : URA M) (H : Heap 𝓤) (A : Atoms 𝓤) (W : Given
         assigns ! (addr ! (from ! (fld ! refl (hop ! (look-in ! 26 (sub ! 0 refl (whole !))) (stop !))))) (from ! (stop !)) (init ! 12 refl (tt, tt)) $
         assigns ! (agg ! (and-then ! (load ! (from ! (stop !)) (look ! 12 refl)) (and-then ! (load ! (from ! (fld ! refl (stop !))) (look-in ! 26 (sub ! 1 refl (whole !)))) (no-more !)))) (from ! (stop !)) (init ! 10 refl (tt, (tt, (record { fits = room₂ .0 }, tt)))) $
         move ! (1 ∷ 6 ∷ []) $ join ! $ move ! (0 ∷ 1 ∷ 6 ∷ []) $
-        use3 W (raw (Told 𝓤 H A mem go .pre (to-told (ws .1 .1 .0)))) (tells (ws .1 .1 .0) (subst (λ (k : ℕ). 3 * k ≤ length (ws .1 .1 .0)) many (subst (λ (k : ℕ). 3 * m ≤ k) (sym long) enough))) $
+        use3 W (raw (Told 𝓤 H A mem go .pre (to-told (ws .1 .1 .0)))) (tells (ws .1 .1 .0) (subst (λ (k : ℕ). 4 * k ≤ length (ws .1 .1 .0)) many (subst (λ (k : ℕ). 4 * m ≤ k) (sym long) enough))) $
         -- [what `keep_reply` asks; true; path's token; what r owns; true; true; path; _13; …]
         calls-at ! fm (Told 𝓤 H A mem go) known₁ (to-told (ws .1 .1 .0)) (and-then ! (load ! (from ! (stop !)) (look ! 13 refl)) (and-then ! (load ! (from ! (stop !)) (look ! 11 refl)) (and-then ! (load ! (from ! (stop !)) (look ! 27 refl)) (and-then ! (load ! (from ! (stop !)) (look ! 7 refl)) (no-more !))))) (λ v.
         use1 W (later (some (λ (p : Reply). (Toks₁ ⊛ ‵ (Rep.the-row .own p (v ∷ []))) ⊛ raw (ensured 𝓤 H A reply.ended (reply.clauses 𝓤 H A mem go) (κ₁, (κ₂, tt)) (y γ₁ (ws .1 .1 .0), (length ys, (g, (z, tt)))) tt p)))) (id⊢ 𝓤 _) $ await ! tt $ pick ! (λ p.
@@ -211,14 +211,14 @@ module _ {M : Type 1} (𝓤 : URA M) (H : Heap 𝓤) (A : Atoms 𝓤) (W : Given
         returns ! (look ! 37 refl) $ forget ! 11 refl $ forget ! 13 refl $ forget ! 15 refl $ forget ! 17 refl $ forget ! 19 refl $ forget ! 21 refl $ forget ! 23 refl $ forget ! 25 refl $ forget ! 27 refl $ forget ! 29 refl $ forget ! 31 refl $ forget ! 33 refl $ forget ! 35 refl $ forget ! 37 refl $
         move ! (37 ∷ 38 ∷ []) $ free1 ! $ move ! (35 ∷ 36 ∷ []) $ free1 ! $ move ! (33 ∷ 34 ∷ []) $ free1 ! $ move ! (31 ∷ 32 ∷ []) $ free1 ! $ move ! (29 ∷ 30 ∷ []) $ free1 ! $ move ! (27 ∷ 28 ∷ []) $ free1 ! $ move ! (25 ∷ 26 ∷ []) $ free1 ! $ move ! (23 ∷ 24 ∷ []) $ free1 ! $ move ! (21 ∷ 22 ∷ []) $ free1 ! $ move ! (19 ∷ 20 ∷ []) $ free1 ! $ move ! (17 ∷ 18 ∷ []) $ free1 ! $ move ! (15 ∷ 16 ∷ []) $ free1 ! $ move ! (13 ∷ 14 ∷ []) $ free1 ! $ move ! (11 ∷ 12 ∷ []) $ free1 ! $ free0 ! $
         move ! (6 ∷ 1 ∷ []) $ join ! $ keep ! (0 ∷ 9 ∷ 4 ∷ 2 ∷ []) $
-        by ! (exits p (us .0) (us .1 .1 .1 .0) (subst (Is Rep.the-row p) (LL.tells Rep.the-type Rep′.the-laws p (v ∷ []) is₁) is₁) (long₁ ∙ long) long₂ (told .replies (spread recordNumbers ys) (gathered-path os ys many enough said))))))))))))))))))))))))))))))))
+        by ! (exits p (us .0) (us .1 .1 .1 .0) (subst (Is Rep.the-row p) (LL.tells Rep.the-type Rep′.the-laws p (v ∷ []) is₁) is₁) (long₁ ∙ long) long₂ (told .replies (spread recordNumbers ys) (spread recordPosts ys) (gathered-path os ys many enough said))))))))))))))))))))))))))))))))
 
 module _ {M : Type 1} (𝓤 : URA M) (H : Heap 𝓤) (A : Atoms 𝓤) (W : Given 𝓤 H A) (mem : Memory → SProp 𝓤) (go : Routine → Fun 𝓤) where
   by-walks : (C : Calls 𝓤 H) (Λ : Loops 𝓤 H) → FmC 𝓤 H (W .laws) C → Triple 𝓤 (C #records·gather) (Gather 𝓤 H A mem go) → Triple 𝓤 (C #sehmelir·record-calls·keep-reply) (Told 𝓤 H A mem go)
       → Walks 𝓤 H A by-way.ended stayed (WpFn 𝓤 H C Λ code.function) (by-way.clauses 𝓤 H A mem go)
   by-walks C Λ fm known known₁ = walked 𝓤 H A by-way.ended stayed (by-way.clauses 𝓤 H A mem go) (WpFn 𝓤 H C Λ code.function)
       (λ κs. (slice-vals, (uint-vals w64, (uint-vals w32, (slice-vals, (slice-vals, tt)))))) (λ κs. (shr-slice-tells (named 0) (κs .0) R.the-row, (uint-tells w64, (uint-tells w32, (mut-slice-tells (named 1) (κs .1 .0) i32, (mut-slice-tells (named 2) (κs .1 .1 .0) u8, tt))))))
-      (λ κs qs bounds a g are. needs 𝓤 ((a .1 .0 ≡ wantedOf (length (a .0 .now)) (a .1 .1 .0)) × (3 * a .1 .0 ≤ length (a .1 .1 .1 .0 .now))) _ (λ asked.
+      (λ κs qs bounds a g are. needs 𝓤 ((a .1 .0 ≡ wantedOf (length (a .0 .now)) (a .1 .1 .0)) × (4 * a .1 .0 ≤ length (a .1 .1 .1 .0 .now))) _ (λ asked.
       walk 𝓤 H A W mem go (κs .0) (κs .1 .0) (κs .1 .1 .0) (qs .0) (qs .1 .0) (qs .1 .1 .0) (a .0 .ptr .0) (a .0 .ptr .1) (a .0 .name) (a .0 .now) (a .1 .0) (a .1 .1 .0) (a .1 .1 .1 .0 .ptr .0) (a .1 .1 .1 .0 .ptr .1) (a .1 .1 .1 .0 .name) (a .1 .1 .1 .0 .now)
       (a .1 .1 .1 .1 .0 .ptr .0) (a .1 .1 .1 .1 .0 .ptr .1) (a .1 .1 .1 .1 .0 .name) (a .1 .1 .1 .1 .0 .now) (are .1 .0 .1) (are .1 .1 .0 .1) (are .0 .0 .1) (are .1 .1 .1 .0 .0 .1) (are .1 .1 .1 .1 .0 .0 .1) (asked .0) (asked .1) C Λ fm known known₁))
 

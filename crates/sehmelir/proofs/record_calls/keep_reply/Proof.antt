@@ -1,4 +1,4 @@
--- `sehmelir::record_calls::keep_reply` meets its contract: grade and count first, then the call over the numbers gathered. Assumes nothing.
+-- `sehmelir::record_calls::keep_reply` meets its contract: grade and count first, then the numbers and the posts gathered. Assumes nothing.
 use native.Mathlib.Omega.{arith}
 use borrow.Author.Needs.{needs}
 use Rattle.sehmelir.proofs.RecordTold.{keep-refused, keep-passed}
@@ -17,20 +17,11 @@ refusal-requires c κs = search needs
 enum-known-checked-2 : tie.Need-enum-known-checked-2
 enum-known-checked-2 c = search needs
 
-numbers-of-requires : tie.Need-numbers-of-requires
-numbers-of-requires c κs = omega (arith, c .before .before .before .check-count .ensures .passed _ (c .before .checked2 .given .1))
+keep-gathered-requires : tie.Need-keep-gathered-requires
+keep-gathered-requires c κs = (omega (arith, c .before .before .before .before .before .check-count .ensures .passed _ (c .before .before .before .checked2 .given .1), c .before .before .before .before .before .before .before .pre), omega (arith, c .before .before .before .before .before .check-count .ensures .passed _ (c .before .before .before .checked2 .given .1)))
 
-sub-sehmelir-keep : tie.Need-sub-sehmelir-keep
-sub-sehmelir-keep c = search needs
-
-part-sehmelir-keep-start : tie.Need-part-sehmelir-keep-start
-part-sehmelir-keep-start c = search needs
-
-part-sehmelir-keep-end : tie.Need-part-sehmelir-keep-end
-part-sehmelir-keep-end c = omega (arith, c .before .before .before .before .before .check-count .ensures .passed _ (c .before .before .before .checked2 .given .1), c .before .numbers-of .ensures, c .before .before .before .before .before .before .before .pre)
-
-sehmelir-keep-requires : tie.Need-sehmelir-keep-requires
-sehmelir-keep-requires c κs = search needs
+kept-requires : tie.Need-kept-requires
+kept-requires c κs = search needs
 
 returns : tie.Need-returns
 returns c = keep-refused _ (c .before .before .before .before .check-count .ensures) _ (c .before .before .checked .given .1) (c .refusal .ensures)
@@ -42,7 +33,7 @@ same-length-2 : tie.Need-same-length-2
 same-length-2 c = search needs
 
 returns-2 : tie.Need-returns-2
-returns-2 c = keep-passed _ (c .before .before .before .before .before .before .before .before .before .before .check-count .ensures) (c .before .before .before .before .before .before .before .before .checked2 .given .1) (c .before .before .before .before .before .before .numbers-of .ensures) (c .before .before .sehmelir-keep .ensures)
+returns-2 c = keep-passed _ (c .before .before .before .before .before .before .before .before .before .check-count .ensures) (c .before .before .before .before .before .before .before .checked2 .given .1) (c .before .before .before .keep-gathered .ensures) (c .kept .ensures)
 
 pub keep-reply-spec : {M : Type 1} → statement M
 keep-reply-spec =
@@ -52,11 +43,8 @@ keep-reply-spec =
     enum-known-checked
     refusal-requires
     enum-known-checked-2
-    numbers-of-requires
-    sub-sehmelir-keep
-    part-sehmelir-keep-start
-    part-sehmelir-keep-end
-    sehmelir-keep-requires
+    keep-gathered-requires
+    kept-requires
     returns
     same-length
     same-length-2

@@ -88,13 +88,13 @@ abbrev tyAt : ℕ → Ty
 tyAt k = ty-of (getD text.locals k (local tyBool valueLocal))
 
 -- own numbers have room for what is wanted
-few : (m : ℕ) → m ≤ 32 → 3 * m ≤ 96
+few : (m : ℕ) → m ≤ 32 → 4 * m ≤ 128
 few m h = omega (arith, h)
 
-some-more : (m : ℕ) → m ≤ 512 → 3 * m ≤ 1536
+some-more : (m : ℕ) → m ≤ 512 → 4 * m ≤ 2048
 some-more m h = omega (arith, h)
 
-all : (m : ℕ) → m ≤ 4096 → 3 * m ≤ 12288
+all : (m : ℕ) → m ≤ 4096 → 4 * m ≤ 16384
 all m h = omega (arith, h)
 
 module _ {M : Type 1} (𝓤 : URA M) (H : Heap 𝓤) (A : Atoms 𝓤) (W : Given 𝓤 H A) (mem : Memory → SProp 𝓤) (go : Routine → Fun 𝓤) (κ κ₁ : Lft) (q q₁ : Share)
@@ -167,10 +167,10 @@ module _ {M : Type 1} (𝓤 : URA M) (H : Heap 𝓤) (A : Atoms 𝓤) (W : Given
     abbrev to-by : ℕ → ℕ → ℕ → GName → By 𝓤 H A mem go .Ghost
     to-by n l ν δ = (((κ, (ν ∷ [], (κ₁, tt))), (q, (fullShare, (q₁, tt))), tt, (x, (m, (g, (y n l δ, (z, tt))))), (pv ∷ [], (vint w64 m ∷ [], (vint w32 g ∷ [], (sv n l ∷ [], (tv ∷ [], tt)))))), tt)
 
-    goes : (n l ν : ℕ) (δ : GName) → 3 * m ≤ n
+    goes : (n l ν : ℕ) (δ : GName) → 4 * m ≤ n
         → ent 𝓤 (sep 𝓤 (mean 𝓤 H A (Toksν ν)) (sep 𝓤 (sem 𝓤 H A Path) (sep 𝓤 (sem 𝓤 H A (MutSlice (named 1) (ν ∷ []) i32 .own (y n l δ) (sv n l ∷ []))) (sem 𝓤 H A Out)))) (By 𝓤 H A mem go .pre (to-by n l ν δ))
     goes n l ν δ fit =
-        qed W (Toksν ν ∷ ‵ Path ∷ ‵ (MutSlice (named 1) (ν ∷ []) i32 .own (y n l δ) (sv n l ∷ [])) ∷ ‵ Out ∷ []) ∵ says ! (many, subst (λ (k : ℕ). 3 * m ≤ k) (sym (length-replicate n (pos 0))) fit) $ frame ! $
+        qed W (Toksν ν ∷ ‵ Path ∷ ‵ (MutSlice (named 1) (ν ∷ []) i32 .own (y n l δ) (sv n l ∷ [])) ∷ ‵ Out ∷ []) ∵ says ! (many, subst (λ (k : ℕ). 4 * m ≤ k) (sym (length-replicate n (pos 0))) fit) $ frame ! $
         nothing ! $ move ! (3 ∷ 0 ∷ []) $ fjoin ! $ move ! (2 ∷ 0 ∷ []) $ fjoin ! $ owned ! u32 (Is u32) (uint-makes 𝓤 H A W w32) g _ (refl, g-fits) $ fjoin ! $
         owned ! usize (Is usize) (uint-makes 𝓤 H A W w64) m _ (refl, m-fits) $ fjoin ! $ move ! (1 ∷ 0 ∷ []) $ fjoin ! $ done !
 
@@ -210,20 +210,20 @@ module _ {M : Type 1} (𝓤 : URA M) (H : Heap 𝓤) (A : Atoms 𝓤) (W : Given
           assigns ! (bin ! (load ! (from ! (stop !)) (look ! 39 refl)) (lit ! tt) tt) (from ! (stop !)) (init ! 29 refl (tt, tt)) $
           first ! $ branches ! (load ! (from ! (stop !)) (look ! 29 refl))
           (λ small.
-          assigns ! (rep ! 96 (lit ! tt)) (from ! (stop !)) (init ! 37 refl (zeros-typed 𝓤 H A W 96)) $
+          assigns ! (rep ! 128 (lit ! tt)) (from ! (stop !)) (init ! 37 refl (zeros-typed 𝓤 H A W 128)) $
           assigns ! (addr ! (from ! (stop !))) (from ! (stop !)) (init ! 27 refl (tt, tt)) $
           assigns ! (agg ! (and-then ! (load ! (from ! (stop !)) (look ! 27 refl)) (and-then ! (lit ! tt) (no-more !)))) (from ! (stop !)) (init ! 25 refl (tt, (tt, (record { fits = lit< tt }, tt)))) $
           assigns ! (addr ! (from ! (fld ! refl (hop ! (look-in ! 41 (sub ! 0 refl (whole !))) (stop !))))) (from ! (stop !)) (init ! 23 refl (tt, tt)) $
           assigns ! (agg ! (and-then ! (load ! (from ! (stop !)) (look ! 23 refl)) (and-then ! (load ! (from ! (fld ! refl (stop !))) (look-in ! 41 (sub ! 1 refl (whole !)))) (no-more !)))) (from ! (stop !)) (init ! 21 refl (tt, (tt, (record { fits = room₁ .0 }, tt)))) $
           lft-new ! tt (λ ν. move ! (38 ∷ []) $
-          use1 W (later (some (λ (δ : GName). ‵ (MutSlice (named 1) (ν ∷ []) i32 .own (y 96 l₅ δ) (sv 96 l₅ ∷ [])) ⊛ ‵ (flent (ν ∷ []) (Held i32 96 l₅ 0 δ))))) (lends-array 𝓤 H A W (named 1) (ν ∷ []) 96 l₅ (lit< tt, lit< tt)) $ await ! tt $ pick ! (λ δ. split ! $
+          use1 W (later (some (λ (δ : GName). ‵ (MutSlice (named 1) (ν ∷ []) i32 .own (y 128 l₅ δ) (sv 128 l₅ ∷ [])) ⊛ ‵ (flent (ν ∷ []) (Held i32 128 l₅ 0 δ))))) (lends-array 𝓤 H A W (named 1) (ν ∷ []) 128 l₅ (lit< tt, lit< tt)) $ await ! tt $ pick ! (λ δ. split ! $
           -- [own; what is lent; the token of ν; path's token; out's and true; out; path; path; _21; …]
           move ! (2 ∷ 4 ∷ []) $ join ! $ move ! (3 ∷ 0 ∷ []) $ join ! $ move ! (1 ∷ 3 ∷ []) $ join ! $ move ! (1 ∷ 3 ∷ 0 ∷ []) $
-          use3 W (raw (By 𝓤 H A mem go .pre (to-by 96 l₅ ν δ))) (goes 96 l₅ ν δ (few m (leb→le m 32 small))) $
-          calls-at ! fm (By 𝓤 H A mem go) known (to-by 96 l₅ ν δ) (and-then ! (load ! (from ! (stop !)) (look ! 42 refl)) (and-then ! (load ! (from ! (stop !)) (look ! 36 refl)) (and-then ! (load ! (from ! (stop !)) (look ! 40 refl)) (and-then ! (load ! (from ! (stop !)) (look ! 23 refl)) (and-then ! (load ! (from ! (stop !)) (look ! 19 refl)) (no-more !)))))) (λ w.
-          use1 W (later (some (λ (r : Reply). (Toksν ν ⊛ ‵ (Rep.the-row .own r (w ∷ []))) ⊛ raw (ensured 𝓤 H A by-way.ended (by-way.clauses 𝓤 H A mem go) (κ, (ν ∷ [], (κ₁, tt))) (x, (m, (g, (y 96 l₅ δ, (z, tt))))) tt r)))) (id⊢ 𝓤 _) $ await ! tt $ pick ! (λ r.
+          use3 W (raw (By 𝓤 H A mem go .pre (to-by 128 l₅ ν δ))) (goes 128 l₅ ν δ (few m (leb→le m 32 small))) $
+          calls-at ! fm (By 𝓤 H A mem go) known (to-by 128 l₅ ν δ) (and-then ! (load ! (from ! (stop !)) (look ! 42 refl)) (and-then ! (load ! (from ! (stop !)) (look ! 36 refl)) (and-then ! (load ! (from ! (stop !)) (look ! 40 refl)) (and-then ! (load ! (from ! (stop !)) (look ! 23 refl)) (and-then ! (load ! (from ! (stop !)) (look ! 19 refl)) (no-more !)))))) (λ w.
+          use1 W (later (some (λ (r : Reply). (Toksν ν ⊛ ‵ (Rep.the-row .own r (w ∷ []))) ⊛ raw (ensured 𝓤 H A by-way.ended (by-way.clauses 𝓤 H A mem go) (κ, (ν ∷ [], (κ₁, tt))) (x, (m, (g, (y 128 l₅ δ, (z, tt))))) tt r)))) (id⊢ 𝓤 _) $ await ! tt $ pick ! (λ r.
           split ! $ move ! (1 ∷ []) $
-          use1 W (some (λ (ws : Unit {0} × (Unit {0} × (Unit {0} × (List ℤ × (List ℤ × Unit {0}))))). ‵ (lasts by-way.ended (κ, (ν ∷ [], (κ₁, tt))) (x, (m, (g, (y 96 l₅ δ, (z, tt))))) ws) ⊛ raw (fact 𝓤 (DrawReplies (spread recordNumbers ys) g ts r (ws .1 .1 .1 .1 .0))))) (id⊢ 𝓤 _) $ pick ! (λ ws.
+          use1 W (some (λ (ws : Unit {0} × (Unit {0} × (Unit {0} × (List ℤ × (List ℤ × Unit {0}))))). ‵ (lasts by-way.ended (κ, (ν ∷ [], (κ₁, tt))) (x, (m, (g, (y 128 l₅ δ, (z, tt))))) ws) ⊛ raw (fact 𝓤 (DrawReplies (spread recordNumbers ys) g ts r (ws .1 .1 .1 .1 .0))))) (id⊢ 𝓤 _) $ pick ! (λ ws.
           split ! $ move ! (1 ∷ []) $ heard ! (DrawReplies (spread recordNumbers ys) g ts r (ws .1 .1 .1 .1 .0)) (λ said.
           fsplit ! $ dropped ! $ fsplit ! $ dropped ! $ fsplit ! $ dropped ! $ fsplit ! $ fsplit ! $ move ! (1 ∷ []) $ feqL ! (λ long. move ! (1 ∷ []) $ fsplit ! $ fsplit ! $ move ! (1 ∷ []) $ feqL ! (λ long₁.
           move ! (3 ∷ []) $ split ! $ move ! (1 ∷ []) $ peeks ! Rep.the-row (Is Rep.the-row) (shows 𝓤 H A Rep.the-row) r (w ∷ []) (λ is.
@@ -231,7 +231,7 @@ module _ {M : Type 1} (𝓤 : URA M) (H : Heap 𝓤) (A : Atoms 𝓤) (W : Given
           land ! (from ! (stop !)) (init ! 48 refl (LL.lawful Rep.the-type Rep′.the-laws 𝓤 H A W .typed r _ is .0)) $
           rewrite ! 48 (λ (u : Val). ‵ (fat fullShare Rep′.mir l₀ 0 u)) (ap only (LL.tells Rep.the-type Rep′.the-laws r (w ∷ []) is)) refl $
           move ! (1 ∷ []) $ split ! $ move ! (1 ∷ []) $ split ! $ lft-end ! tt $ move ! (0 ∷ 7 ∷ 6 ∷ []) $
-          use3 W (later (‵ (froom (tyArray (tyInt w32) 96) l₅ 0))) (array-back 𝓤 H A W (named 1) (ν ∷ []) 96 l₅ δ (ws .1 .1 .1 .0)) $ await ! tt $
+          use3 W (later (‵ (froom (tyArray (tyInt w32) 128) l₅ 0))) (array-back 𝓤 H A W (named 1) (ν ∷ []) 128 l₅ δ (ws .1 .1 .1 .0)) $ await ! tt $
           returns-within ! Post refl (look ! 48 refl) $ forget ! 48 refl $ forget ! 46 refl $ forget ! 44 refl $ forget ! 42 refl $ forget ! 40 refl $ forget ! 33 refl $ forget ! 31 refl $ forget ! 29 refl $ forget ! 27 refl $ forget ! 25 refl $ forget ! 23 refl $
           move ! (48 ∷ 49 ∷ []) $ free1 ! $ move ! (46 ∷ 47 ∷ []) $ free1 ! $ move ! (44 ∷ 45 ∷ []) $ free1 ! $ move ! (42 ∷ 43 ∷ []) $ free1 ! $ move ! (40 ∷ 41 ∷ []) $ free1 ! $ move ! (0 ∷ 39 ∷ []) $ free1 ! $ move ! (36 ∷ 37 ∷ []) $ free1 ! $ move ! (34 ∷ 35 ∷ []) $ free1 ! $ move ! (32 ∷ 33 ∷ []) $ free1 ! $ move ! (30 ∷ 31 ∷ []) $ free1 ! $ move ! (28 ∷ 29 ∷ []) $ free1 ! $ move ! (26 ∷ 27 ∷ []) $ free1 ! $ move ! (24 ∷ 25 ∷ []) $ free1 ! $ move ! (22 ∷ 23 ∷ []) $ free1 ! $ move ! (20 ∷ 21 ∷ []) $ free1 ! $ move ! (18 ∷ 19 ∷ []) $ free1 ! $ move ! (16 ∷ 17 ∷ []) $ free1 ! $ move ! (14 ∷ 15 ∷ []) $ free1 ! $ move ! (12 ∷ 13 ∷ []) $ free1 ! $ move ! (10 ∷ 11 ∷ []) $ free1 ! $ move ! (8 ∷ 9 ∷ []) $ free1 ! $ move ! (6 ∷ 7 ∷ []) $ free1 ! $ free0 ! $
           move ! (1 ∷ 0 ∷ []) $ join ! $ keep ! (0 ∷ 4 ∷ 2 ∷ []) $ by ! (exits r (ws .1 .1 .1 .1 .0) (subst (Is Rep.the-row r) (LL.tells Rep.the-type Rep′.the-laws r (w ∷ []) is) is) long₁ said)))))))))))
@@ -239,20 +239,20 @@ module _ {M : Type 1} (𝓤 : URA M) (H : Heap 𝓤) (A : Atoms 𝓤) (W : Given
           assigns ! (bin ! (load ! (from ! (stop !)) (look ! 39 refl)) (lit ! tt) tt) (from ! (stop !)) (store ! 29 refl (tt, tt)) $
           first ! $ branches ! (load ! (from ! (stop !)) (look ! 29 refl))
           (λ small.
-          assigns ! (rep ! 1536 (lit ! tt)) (from ! (stop !)) (init ! 35 refl (zeros-typed 𝓤 H A W 1536)) $
+          assigns ! (rep ! 2048 (lit ! tt)) (from ! (stop !)) (init ! 35 refl (zeros-typed 𝓤 H A W 2048)) $
           assigns ! (addr ! (from ! (stop !))) (from ! (stop !)) (init ! 19 refl (tt, tt)) $
           assigns ! (agg ! (and-then ! (load ! (from ! (stop !)) (look ! 19 refl)) (and-then ! (lit-big ! (record { fits = lit< tt })) (no-more !)))) (from ! (stop !)) (init ! 17 refl (tt, (tt, (record { fits = lit< tt }, tt)))) $
           assigns ! (addr ! (from ! (fld ! refl (hop ! (look-in ! 41 (sub ! 0 refl (whole !))) (stop !))))) (from ! (stop !)) (init ! 15 refl (tt, tt)) $
           assigns ! (agg ! (and-then ! (load ! (from ! (stop !)) (look ! 15 refl)) (and-then ! (load ! (from ! (fld ! refl (stop !))) (look-in ! 41 (sub ! 1 refl (whole !)))) (no-more !)))) (from ! (stop !)) (init ! 13 refl (tt, (tt, (record { fits = room₁ .0 }, tt)))) $
           lft-new ! tt (λ ν. move ! (36 ∷ []) $
-          use1 W (later (some (λ (δ : GName). ‵ (MutSlice (named 1) (ν ∷ []) i32 .own (y 1536 l₆ δ) (sv 1536 l₆ ∷ [])) ⊛ ‵ (flent (ν ∷ []) (Held i32 1536 l₆ 0 δ))))) (lends-array 𝓤 H A W (named 1) (ν ∷ []) 1536 l₆ (lit< tt, lit< tt)) $ await ! tt $ pick ! (λ δ. split ! $
+          use1 W (later (some (λ (δ : GName). ‵ (MutSlice (named 1) (ν ∷ []) i32 .own (y 2048 l₆ δ) (sv 2048 l₆ ∷ [])) ⊛ ‵ (flent (ν ∷ []) (Held i32 2048 l₆ 0 δ))))) (lends-array 𝓤 H A W (named 1) (ν ∷ []) 2048 l₆ (lit< tt, lit< tt)) $ await ! tt $ pick ! (λ δ. split ! $
           -- [own; what is lent; the token of ν; path's token; out's and true; out; path; path; _21; …]
           move ! (2 ∷ 4 ∷ []) $ join ! $ move ! (3 ∷ 0 ∷ []) $ join ! $ move ! (1 ∷ 3 ∷ []) $ join ! $ move ! (1 ∷ 3 ∷ 0 ∷ []) $
-          use3 W (raw (By 𝓤 H A mem go .pre (to-by 1536 l₆ ν δ))) (goes 1536 l₆ ν δ (some-more m (leb→le m 512 small))) $
-          calls-at ! fm (By 𝓤 H A mem go) known (to-by 1536 l₆ ν δ) (and-then ! (load ! (from ! (stop !)) (look ! 42 refl)) (and-then ! (load ! (from ! (stop !)) (look ! 36 refl)) (and-then ! (load ! (from ! (stop !)) (look ! 40 refl)) (and-then ! (load ! (from ! (stop !)) (look ! 15 refl)) (and-then ! (load ! (from ! (stop !)) (look ! 11 refl)) (no-more !)))))) (λ w.
-          use1 W (later (some (λ (r : Reply). (Toksν ν ⊛ ‵ (Rep.the-row .own r (w ∷ []))) ⊛ raw (ensured 𝓤 H A by-way.ended (by-way.clauses 𝓤 H A mem go) (κ, (ν ∷ [], (κ₁, tt))) (x, (m, (g, (y 1536 l₆ δ, (z, tt))))) tt r)))) (id⊢ 𝓤 _) $ await ! tt $ pick ! (λ r.
+          use3 W (raw (By 𝓤 H A mem go .pre (to-by 2048 l₆ ν δ))) (goes 2048 l₆ ν δ (some-more m (leb→le m 512 small))) $
+          calls-at ! fm (By 𝓤 H A mem go) known (to-by 2048 l₆ ν δ) (and-then ! (load ! (from ! (stop !)) (look ! 42 refl)) (and-then ! (load ! (from ! (stop !)) (look ! 36 refl)) (and-then ! (load ! (from ! (stop !)) (look ! 40 refl)) (and-then ! (load ! (from ! (stop !)) (look ! 15 refl)) (and-then ! (load ! (from ! (stop !)) (look ! 11 refl)) (no-more !)))))) (λ w.
+          use1 W (later (some (λ (r : Reply). (Toksν ν ⊛ ‵ (Rep.the-row .own r (w ∷ []))) ⊛ raw (ensured 𝓤 H A by-way.ended (by-way.clauses 𝓤 H A mem go) (κ, (ν ∷ [], (κ₁, tt))) (x, (m, (g, (y 2048 l₆ δ, (z, tt))))) tt r)))) (id⊢ 𝓤 _) $ await ! tt $ pick ! (λ r.
           split ! $ move ! (1 ∷ []) $
-          use1 W (some (λ (ws : Unit {0} × (Unit {0} × (Unit {0} × (List ℤ × (List ℤ × Unit {0}))))). ‵ (lasts by-way.ended (κ, (ν ∷ [], (κ₁, tt))) (x, (m, (g, (y 1536 l₆ δ, (z, tt))))) ws) ⊛ raw (fact 𝓤 (DrawReplies (spread recordNumbers ys) g ts r (ws .1 .1 .1 .1 .0))))) (id⊢ 𝓤 _) $ pick ! (λ ws.
+          use1 W (some (λ (ws : Unit {0} × (Unit {0} × (Unit {0} × (List ℤ × (List ℤ × Unit {0}))))). ‵ (lasts by-way.ended (κ, (ν ∷ [], (κ₁, tt))) (x, (m, (g, (y 2048 l₆ δ, (z, tt))))) ws) ⊛ raw (fact 𝓤 (DrawReplies (spread recordNumbers ys) g ts r (ws .1 .1 .1 .1 .0))))) (id⊢ 𝓤 _) $ pick ! (λ ws.
           split ! $ move ! (1 ∷ []) $ heard ! (DrawReplies (spread recordNumbers ys) g ts r (ws .1 .1 .1 .1 .0)) (λ said.
           fsplit ! $ dropped ! $ fsplit ! $ dropped ! $ fsplit ! $ dropped ! $ fsplit ! $ fsplit ! $ move ! (1 ∷ []) $ feqL ! (λ long. move ! (1 ∷ []) $ fsplit ! $ fsplit ! $ move ! (1 ∷ []) $ feqL ! (λ long₁.
           move ! (3 ∷ []) $ split ! $ move ! (1 ∷ []) $ peeks ! Rep.the-row (Is Rep.the-row) (shows 𝓤 H A Rep.the-row) r (w ∷ []) (λ is.
@@ -260,25 +260,25 @@ module _ {M : Type 1} (𝓤 : URA M) (H : Heap 𝓤) (A : Atoms 𝓤) (W : Given
           land ! (from ! (stop !)) (init ! 48 refl (LL.lawful Rep.the-type Rep′.the-laws 𝓤 H A W .typed r _ is .0)) $
           rewrite ! 48 (λ (u : Val). ‵ (fat fullShare Rep′.mir l₀ 0 u)) (ap only (LL.tells Rep.the-type Rep′.the-laws r (w ∷ []) is)) refl $
           move ! (1 ∷ []) $ split ! $ move ! (1 ∷ []) $ split ! $ lft-end ! tt $ move ! (0 ∷ 7 ∷ 6 ∷ []) $
-          use3 W (later (‵ (froom (tyArray (tyInt w32) 1536) l₆ 0))) (array-back 𝓤 H A W (named 1) (ν ∷ []) 1536 l₆ δ (ws .1 .1 .1 .0)) $ await ! tt $
+          use3 W (later (‵ (froom (tyArray (tyInt w32) 2048) l₆ 0))) (array-back 𝓤 H A W (named 1) (ν ∷ []) 2048 l₆ δ (ws .1 .1 .1 .0)) $ await ! tt $
           returns-within ! Post refl (look ! 48 refl) $ forget ! 48 refl $ forget ! 46 refl $ forget ! 44 refl $ forget ! 42 refl $ forget ! 40 refl $ forget ! 33 refl $ forget ! 31 refl $ forget ! 21 refl $ forget ! 19 refl $ forget ! 17 refl $ forget ! 15 refl $
           move ! (48 ∷ 49 ∷ []) $ free1 ! $ move ! (46 ∷ 47 ∷ []) $ free1 ! $ move ! (44 ∷ 45 ∷ []) $ free1 ! $ move ! (42 ∷ 43 ∷ []) $ free1 ! $ move ! (40 ∷ 41 ∷ []) $ free1 ! $ move ! (38 ∷ 39 ∷ []) $ free1 ! $ move ! (0 ∷ 37 ∷ []) $ free1 ! $ move ! (34 ∷ 35 ∷ []) $ free1 ! $ move ! (32 ∷ 33 ∷ []) $ free1 ! $ move ! (30 ∷ 31 ∷ []) $ free1 ! $ move ! (28 ∷ 29 ∷ []) $ free1 ! $ move ! (26 ∷ 27 ∷ []) $ free1 ! $ move ! (24 ∷ 25 ∷ []) $ free1 ! $ move ! (22 ∷ 23 ∷ []) $ free1 ! $ move ! (20 ∷ 21 ∷ []) $ free1 ! $ move ! (18 ∷ 19 ∷ []) $ free1 ! $ move ! (16 ∷ 17 ∷ []) $ free1 ! $ move ! (14 ∷ 15 ∷ []) $ free1 ! $ move ! (12 ∷ 13 ∷ []) $ free1 ! $ move ! (10 ∷ 11 ∷ []) $ free1 ! $ move ! (8 ∷ 9 ∷ []) $ free1 ! $ move ! (6 ∷ 7 ∷ []) $ free1 ! $ free0 ! $
           move ! (1 ∷ 0 ∷ []) $ join ! $ keep ! (0 ∷ 4 ∷ 2 ∷ []) $ by ! (exits r (ws .1 .1 .1 .1 .0) (subst (Is Rep.the-row r) (LL.tells Rep.the-type Rep′.the-laws r (w ∷ []) is) is) long₁ said)))))))))))
           (λ _. skips ! $ exec ! C Λ En text.t-7 (atRet En Post) $
-          assigns ! (rep ! 12288 (lit ! tt)) (from ! (stop !)) (init ! 33 refl (zeros-typed 𝓤 H A W 12288)) $
+          assigns ! (rep ! 16384 (lit ! tt)) (from ! (stop !)) (init ! 33 refl (zeros-typed 𝓤 H A W 16384)) $
           assigns ! (addr ! (from ! (stop !))) (from ! (stop !)) (init ! 11 refl (tt, tt)) $
           assigns ! (agg ! (and-then ! (load ! (from ! (stop !)) (look ! 11 refl)) (and-then ! (lit-big ! (record { fits = lit< tt })) (no-more !)))) (from ! (stop !)) (init ! 9 refl (tt, (tt, (record { fits = lit< tt }, tt)))) $
           assigns ! (addr ! (from ! (fld ! refl (hop ! (look-in ! 41 (sub ! 0 refl (whole !))) (stop !))))) (from ! (stop !)) (init ! 7 refl (tt, tt)) $
           assigns ! (agg ! (and-then ! (load ! (from ! (stop !)) (look ! 7 refl)) (and-then ! (load ! (from ! (fld ! refl (stop !))) (look-in ! 41 (sub ! 1 refl (whole !)))) (no-more !)))) (from ! (stop !)) (init ! 5 refl (tt, (tt, (record { fits = room₁ .0 }, tt)))) $
           lft-new ! tt (λ ν. move ! (34 ∷ []) $
-          use1 W (later (some (λ (δ : GName). ‵ (MutSlice (named 1) (ν ∷ []) i32 .own (y 12288 l₇ δ) (sv 12288 l₇ ∷ [])) ⊛ ‵ (flent (ν ∷ []) (Held i32 12288 l₇ 0 δ))))) (lends-array 𝓤 H A W (named 1) (ν ∷ []) 12288 l₇ (lit< tt, lit< tt)) $ await ! tt $ pick ! (λ δ. split ! $
+          use1 W (later (some (λ (δ : GName). ‵ (MutSlice (named 1) (ν ∷ []) i32 .own (y 16384 l₇ δ) (sv 16384 l₇ ∷ [])) ⊛ ‵ (flent (ν ∷ []) (Held i32 16384 l₇ 0 δ))))) (lends-array 𝓤 H A W (named 1) (ν ∷ []) 16384 l₇ (lit< tt, lit< tt)) $ await ! tt $ pick ! (λ δ. split ! $
           -- [own; what is lent; the token of ν; path's token; out's and true; out; path; path; _21; …]
           move ! (2 ∷ 4 ∷ []) $ join ! $ move ! (3 ∷ 0 ∷ []) $ join ! $ move ! (1 ∷ 3 ∷ []) $ join ! $ move ! (1 ∷ 3 ∷ 0 ∷ []) $
-          use3 W (raw (By 𝓤 H A mem go .pre (to-by 12288 l₇ ν δ))) (goes 12288 l₇ ν δ (all m (subst (λ (k : ℕ). k ≤ 4096) (sym many) (wants (length ys) g .most)))) $
-          calls-at ! fm (By 𝓤 H A mem go) known (to-by 12288 l₇ ν δ) (and-then ! (load ! (from ! (stop !)) (look ! 42 refl)) (and-then ! (load ! (from ! (stop !)) (look ! 36 refl)) (and-then ! (load ! (from ! (stop !)) (look ! 40 refl)) (and-then ! (load ! (from ! (stop !)) (look ! 7 refl)) (and-then ! (load ! (from ! (stop !)) (look ! 3 refl)) (no-more !)))))) (λ w.
-          use1 W (later (some (λ (r : Reply). (Toksν ν ⊛ ‵ (Rep.the-row .own r (w ∷ []))) ⊛ raw (ensured 𝓤 H A by-way.ended (by-way.clauses 𝓤 H A mem go) (κ, (ν ∷ [], (κ₁, tt))) (x, (m, (g, (y 12288 l₇ δ, (z, tt))))) tt r)))) (id⊢ 𝓤 _) $ await ! tt $ pick ! (λ r.
+          use3 W (raw (By 𝓤 H A mem go .pre (to-by 16384 l₇ ν δ))) (goes 16384 l₇ ν δ (all m (subst (λ (k : ℕ). k ≤ 4096) (sym many) (wants (length ys) g .most)))) $
+          calls-at ! fm (By 𝓤 H A mem go) known (to-by 16384 l₇ ν δ) (and-then ! (load ! (from ! (stop !)) (look ! 42 refl)) (and-then ! (load ! (from ! (stop !)) (look ! 36 refl)) (and-then ! (load ! (from ! (stop !)) (look ! 40 refl)) (and-then ! (load ! (from ! (stop !)) (look ! 7 refl)) (and-then ! (load ! (from ! (stop !)) (look ! 3 refl)) (no-more !)))))) (λ w.
+          use1 W (later (some (λ (r : Reply). (Toksν ν ⊛ ‵ (Rep.the-row .own r (w ∷ []))) ⊛ raw (ensured 𝓤 H A by-way.ended (by-way.clauses 𝓤 H A mem go) (κ, (ν ∷ [], (κ₁, tt))) (x, (m, (g, (y 16384 l₇ δ, (z, tt))))) tt r)))) (id⊢ 𝓤 _) $ await ! tt $ pick ! (λ r.
           split ! $ move ! (1 ∷ []) $
-          use1 W (some (λ (ws : Unit {0} × (Unit {0} × (Unit {0} × (List ℤ × (List ℤ × Unit {0}))))). ‵ (lasts by-way.ended (κ, (ν ∷ [], (κ₁, tt))) (x, (m, (g, (y 12288 l₇ δ, (z, tt))))) ws) ⊛ raw (fact 𝓤 (DrawReplies (spread recordNumbers ys) g ts r (ws .1 .1 .1 .1 .0))))) (id⊢ 𝓤 _) $ pick ! (λ ws.
+          use1 W (some (λ (ws : Unit {0} × (Unit {0} × (Unit {0} × (List ℤ × (List ℤ × Unit {0}))))). ‵ (lasts by-way.ended (κ, (ν ∷ [], (κ₁, tt))) (x, (m, (g, (y 16384 l₇ δ, (z, tt))))) ws) ⊛ raw (fact 𝓤 (DrawReplies (spread recordNumbers ys) g ts r (ws .1 .1 .1 .1 .0))))) (id⊢ 𝓤 _) $ pick ! (λ ws.
           split ! $ move ! (1 ∷ []) $ heard ! (DrawReplies (spread recordNumbers ys) g ts r (ws .1 .1 .1 .1 .0)) (λ said.
           fsplit ! $ dropped ! $ fsplit ! $ dropped ! $ fsplit ! $ dropped ! $ fsplit ! $ fsplit ! $ move ! (1 ∷ []) $ feqL ! (λ long. move ! (1 ∷ []) $ fsplit ! $ fsplit ! $ move ! (1 ∷ []) $ feqL ! (λ long₁.
           move ! (3 ∷ []) $ split ! $ move ! (1 ∷ []) $ peeks ! Rep.the-row (Is Rep.the-row) (shows 𝓤 H A Rep.the-row) r (w ∷ []) (λ is.
@@ -286,7 +286,7 @@ module _ {M : Type 1} (𝓤 : URA M) (H : Heap 𝓤) (A : Atoms 𝓤) (W : Given
           land ! (from ! (stop !)) (init ! 48 refl (LL.lawful Rep.the-type Rep′.the-laws 𝓤 H A W .typed r _ is .0)) $
           rewrite ! 48 (λ (u : Val). ‵ (fat fullShare Rep′.mir l₀ 0 u)) (ap only (LL.tells Rep.the-type Rep′.the-laws r (w ∷ []) is)) refl $
           move ! (1 ∷ []) $ split ! $ move ! (1 ∷ []) $ split ! $ lft-end ! tt $ move ! (0 ∷ 7 ∷ 6 ∷ []) $
-          use3 W (later (‵ (froom (tyArray (tyInt w32) 12288) l₇ 0))) (array-back 𝓤 H A W (named 1) (ν ∷ []) 12288 l₇ δ (ws .1 .1 .1 .0)) $ await ! tt $
+          use3 W (later (‵ (froom (tyArray (tyInt w32) 16384) l₇ 0))) (array-back 𝓤 H A W (named 1) (ν ∷ []) 16384 l₇ δ (ws .1 .1 .1 .0)) $ await ! tt $
           returns ! (look ! 48 refl) $ forget ! 48 refl $ forget ! 46 refl $ forget ! 44 refl $ forget ! 42 refl $ forget ! 40 refl $ forget ! 33 refl $ forget ! 31 refl $ forget ! 13 refl $ forget ! 11 refl $ forget ! 9 refl $ forget ! 7 refl $
           move ! (48 ∷ 49 ∷ []) $ free1 ! $ move ! (46 ∷ 47 ∷ []) $ free1 ! $ move ! (44 ∷ 45 ∷ []) $ free1 ! $ move ! (42 ∷ 43 ∷ []) $ free1 ! $ move ! (40 ∷ 41 ∷ []) $ free1 ! $ move ! (38 ∷ 39 ∷ []) $ free1 ! $ move ! (36 ∷ 37 ∷ []) $ free1 ! $ move ! (0 ∷ 35 ∷ []) $ free1 ! $ move ! (32 ∷ 33 ∷ []) $ free1 ! $ move ! (30 ∷ 31 ∷ []) $ free1 ! $ move ! (28 ∷ 29 ∷ []) $ free1 ! $ move ! (26 ∷ 27 ∷ []) $ free1 ! $ move ! (24 ∷ 25 ∷ []) $ free1 ! $ move ! (22 ∷ 23 ∷ []) $ free1 ! $ move ! (20 ∷ 21 ∷ []) $ free1 ! $ move ! (18 ∷ 19 ∷ []) $ free1 ! $ move ! (16 ∷ 17 ∷ []) $ free1 ! $ move ! (14 ∷ 15 ∷ []) $ free1 ! $ move ! (12 ∷ 13 ∷ []) $ free1 ! $ move ! (10 ∷ 11 ∷ []) $ free1 ! $ move ! (8 ∷ 9 ∷ []) $ free1 ! $ move ! (6 ∷ 7 ∷ []) $ free1 ! $ free0 ! $
           move ! (1 ∷ 0 ∷ []) $ join ! $ keep ! (0 ∷ 4 ∷ 2 ∷ []) $ by ! (exits r (ws .1 .1 .1 .1 .0) (subst (Is Rep.the-row r) (LL.tells Rep.the-type Rep′.the-laws r (w ∷ []) is) is) long₁ said))))))))))))

@@ -1,0 +1,4 @@
+-- The laws.
+pub mod NothingDiffers
+pub mod TableAgain
+pub mod SoundUnnoted

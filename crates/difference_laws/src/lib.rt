@@ -1,0 +1,1 @@
+// Nothing differs exactly where a store is sound: no code.

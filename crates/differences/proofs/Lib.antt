@@ -1,0 +1,3 @@
+-- The crate's own laws.
+pub mod EdgesCompared
+pub mod Notes

@@ -1,0 +1,1 @@
+// How many own numbers hold a step's edges on their way: no code.

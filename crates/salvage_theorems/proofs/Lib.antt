@@ -1,0 +1,2 @@
+-- The proofs.
+pub mod Salvageable

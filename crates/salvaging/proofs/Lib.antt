@@ -1,0 +1,4 @@
+-- The crate's own laws.
+pub mod FrontRows
+pub mod Given
+pub mod OneSalvage

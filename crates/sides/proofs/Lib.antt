@@ -1,0 +1,2 @@
+-- The crate's own laws.
+pub mod Answers
