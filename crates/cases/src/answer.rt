@@ -5,7 +5,7 @@ use lines::page;
 use lines::token::wide;
 
 // What a call answers, as numbers.
-#[derive(Drop)]
+#[derive(Clone, Copy)]
 pub struct Reply {
     pub reply: u64,
     pub number: u64,

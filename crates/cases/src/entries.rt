@@ -5,7 +5,7 @@ use lines::token::{Number, Token, next};
 use number::sign::signed;
 
 // A number as an entry of numbers.
-#[derive(Drop)]
+#[derive(Clone, Copy)]
 pub enum Entry {
     Is(i32),
     Outside,

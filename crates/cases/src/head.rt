@@ -6,7 +6,7 @@ use lines::line::read_numbers;
 use lines::token::Number;
 
 // A grade, how many entries are lent, and how many follow.
-#[derive(Drop)]
+#[derive(Clone, Copy)]
 pub struct Lent {
     pub grade: u32,
     pub room: usize,
@@ -14,7 +14,7 @@ pub struct Lent {
 }
 
 // A vertex in the place of another.
-#[derive(Drop)]
+#[derive(Clone, Copy)]
 pub struct Place {
     pub index: usize,
     pub x: i32,
@@ -23,14 +23,14 @@ pub struct Place {
 }
 
 // What is added to the byte at a place.
-#[derive(Drop)]
+#[derive(Clone, Copy)]
 pub struct Damage {
     pub at: usize,
     pub value: u8,
 }
 
 // The calls that a case makes. A replacement comes with how many entries follow.
-#[derive(Drop)]
+#[derive(Clone, Copy)]
 pub enum Case {
     Draw(Lent),
     Keep(Lent),
@@ -41,14 +41,14 @@ pub enum Case {
 }
 
 // A case, and where its entries begin.
-#[derive(Drop)]
+#[derive(Clone, Copy)]
 pub struct Head {
     pub case: Case,
     pub at: usize,
 }
 
 // What numbers say of a vertex.
-#[derive(Drop)]
+#[derive(Clone, Copy)]
 enum Vertex {
     Is(Place),
     Outside,

@@ -9,21 +9,21 @@ pub mod putting;
 pub mod removing;
 
 // What a call came to that changes a chunk: how many bytes, or why not.
-#[derive(Drop)]
+#[derive(Clone, Copy)]
 pub enum Done {
     Bytes(usize),
     Refused(Refusal),
 }
 
 // Where a key's outline stands, offset and length, or why not.
-#[derive(Drop)]
+#[derive(Clone, Copy)]
 pub enum Found {
     Part(usize, usize),
     Refused(Refusal),
 }
 
 // Where a gap is wide enough.
-#[derive(Drop)]
+#[derive(Clone, Copy)]
 pub enum Gap {
     At(usize),
     Nothing,

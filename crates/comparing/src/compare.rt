@@ -26,7 +26,7 @@ use words::numbers::same_numbers;
 use words::{same_word, wide_bits};
 
 // Where a comparison stands: the walk, how far the table agrees and where its next entry lies, how far the bodies agree and where they go on.
-#[derive(Drop)]
+#[derive(Clone, Copy)]
 pub struct Comparing {
     pub walk: Walk,
     pub table: usize,

@@ -3,7 +3,7 @@ pub mod compare;
 pub mod difference;
 
 // What a comparison came to: how far the table agrees, how far the bodies do, and where the bodies that are due end.
-#[derive(Drop)]
+#[derive(Clone, Copy)]
 pub struct Compared {
     pub table: usize,
     pub bodies: usize,

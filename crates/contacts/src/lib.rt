@@ -6,7 +6,7 @@ pub mod math;
 pub mod sections;
 
 // A vertex of a path.
-#[derive(Drop)]
+#[derive(Clone, Copy)]
 pub struct Vertex {
     pub x: i64,
     pub y: i64,
@@ -14,7 +14,7 @@ pub struct Vertex {
 }
 
 // Whether the radius falls, stays or grows along a section.
-#[derive(Drop)]
+#[derive(Clone, Copy)]
 pub enum Trend {
     Decreasing,
     Constant,
@@ -22,21 +22,21 @@ pub enum Trend {
 }
 
 // Which ends of an edge are exact contacts (document 02, request 7).
-#[derive(Drop)]
+#[derive(Clone, Copy)]
 pub struct Exactness {
     pub a: bool,
     pub b: bool,
 }
 
 // The same of both sides of a section: four marks, one a contact.
-#[derive(Drop)]
+#[derive(Clone, Copy)]
 pub struct ExactSides {
     pub left: Exactness,
     pub right: Exactness,
 }
 
 // A drawn step from a to b: its contacts, from a's to b's, on the left and on the right, and which of them are exact.
-#[derive(Drop)]
+#[derive(Clone, Copy)]
 pub struct Section {
     pub a: Vertex,
     pub b: Vertex,
@@ -47,7 +47,7 @@ pub struct Section {
 }
 
 // What a step is.
-#[derive(Drop)]
+#[derive(Clone, Copy)]
 pub enum Kind {
     Broken,
     Drawn,
@@ -55,7 +55,7 @@ pub enum Kind {
 }
 
 // The last drawn section, if there is one.
-#[derive(Drop)]
+#[derive(Clone, Copy)]
 pub enum Last {
     Nothing,
     Held(Section),

@@ -121,7 +121,7 @@ fn numerator(v: Vector, delta: i64, k: u32, t: i64) -> Vector
 }
 
 // Offsets of contacts from their centres, at a radius of 1: a numerator for the left and one for the right, over one divisor.
-#[derive(Drop)]
+#[derive(Clone, Copy)]
 pub struct Offsets {
     pub left: Vector,
     pub right: Vector,
@@ -147,7 +147,7 @@ pub fn tangent_offsets(v: Vector, delta: i64) -> Offsets
 }
 
 // A coordinate of a contact, and whether the division left nothing over.
-#[derive(Drop)]
+#[derive(Clone, Copy)]
 pub struct Coordinate {
     pub to: i64,
     pub exact: bool,
@@ -164,7 +164,7 @@ fn moved(x: i64, radius: i64, n: i64, divisor: u64) -> Coordinate
 }
 
 // A contact, and whether it is exact: neither division left anything over.
-#[derive(Drop)]
+#[derive(Clone, Copy)]
 pub struct Touch {
     pub point: Point,
     pub exact: bool,
@@ -192,7 +192,7 @@ fn contact(divisor: u64, n: Vector, v: Vertex) -> Touch
 }
 
 // A side of a section, and which of its ends are exact.
-#[derive(Drop)]
+#[derive(Clone, Copy)]
 pub struct Side {
     pub edge: Edge,
     pub exact: Exactness,

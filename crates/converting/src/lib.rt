@@ -16,7 +16,7 @@ use replies::Refusal;
 pub mod redrawing;
 
 // What converting an outline came to: how many bytes, or why not.
-#[derive(Drop)]
+#[derive(Clone, Copy)]
 pub enum Converted {
     Bytes(usize),
     Refused(Refusal),

@@ -11,7 +11,7 @@ use words::numbers::same_numbers;
 use words::word_at;
 
 // Where the walk stands: the walk, where the old edges of the next body begin, how many edges are due so far, and what differs in the last body.
-#[derive(Drop)]
+#[derive(Clone, Copy)]
 pub struct Differing {
     pub walk: Walk,
     pub at: usize,

@@ -16,7 +16,7 @@ use replies::Refusal;
 use replies::path_rows::{PathCheck, check_path};
 
 // What drawing a path came to: how many edges, or why not.
-#[derive(Drop)]
+#[derive(Clone, Copy)]
 pub enum Drawn {
     Edges(usize),
     Refused(Refusal),

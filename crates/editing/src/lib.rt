@@ -4,7 +4,7 @@ use replies::Refusal;
 pub mod replacing;
 
 // What replacing a vertex came to: how many bytes, or why not.
-#[derive(Drop)]
+#[derive(Clone, Copy)]
 pub enum Replaced {
     Bytes(usize),
     Refused(Refusal),

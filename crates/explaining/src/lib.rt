@@ -15,14 +15,14 @@ use reasons::{Explanation, Why};
 use replies::Refusal;
 
 // What explaining an edge came to: its own number and why it is there, or why not.
-#[derive(Drop)]
+#[derive(Clone, Copy)]
 pub enum Explained {
     Edge(usize, Why),
     Refused(Refusal),
 }
 
 // What listing an outline's edges came to: how many there are, or why not.
-#[derive(Drop)]
+#[derive(Clone, Copy)]
 pub enum Listed {
     Edges(usize),
     Refused(Refusal),

@@ -6,7 +6,7 @@ pub mod folding;
 pub mod unfolding;
 
 // What edges are drawn with: the step of a grade, and whether an arc may stand folded.
-#[derive(Drop)]
+#[derive(Clone, Copy)]
 pub struct Pen {
     pub step: Vector,
     pub folds: bool,
@@ -14,7 +14,7 @@ pub struct Pen {
 
 // An arc whose rotations are counted: from a point, in a direction, so many of them, each to the point at the radius from the centre, and
 // then to the end.
-#[derive(Drop)]
+#[derive(Clone, Copy)]
 pub struct Bow {
     pub turns: usize,
     pub direction: Vector,
@@ -25,7 +25,7 @@ pub struct Bow {
 }
 
 // What stands in own numbers: an edge, or a whole arc.
-#[derive(Drop)]
+#[derive(Clone, Copy)]
 pub enum Fold {
     Straight(Edge),
     Bent(Bow),

@@ -6,7 +6,7 @@ pub mod heads;
 pub mod shows;
 
 // What a store's header says: form, grade, vertices and edges.
-#[derive(Drop)]
+#[derive(Clone, Copy)]
 pub struct Header {
     pub form: Form,
     pub grade: u32,
@@ -15,7 +15,7 @@ pub struct Header {
 }
 
 // What the rows of a store came to: its header, or why it is refused.
-#[derive(Drop)]
+#[derive(Clone, Copy)]
 pub enum Checked {
     Holds(Header),
     Refused(Refusal),

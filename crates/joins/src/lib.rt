@@ -2,7 +2,7 @@
 pub mod builder_join;
 
 // How a chain starts or ends.
-#[derive(Drop)]
+#[derive(Clone, Copy)]
 pub enum Cap {
     Butt,
     Round,

@@ -26,7 +26,7 @@ use words::numbers::put_numbers;
 use words::{put_word, wide_bits};
 
 // Where filling stands: the walk, and where the table and the bodies go on.
-#[derive(Drop)]
+#[derive(Clone, Copy)]
 pub struct Filling {
     pub walk: Walk,
     pub table: usize,

@@ -13,7 +13,7 @@ pub mod filling;
 pub mod rewriting;
 
 // What keeping a path came to: how many bytes, or why not.
-#[derive(Drop)]
+#[derive(Clone, Copy)]
 pub enum Kept {
     Bytes(usize),
     Refused(Refusal),

@@ -17,7 +17,7 @@ use folds::Pen;
 use plane::vectors::same;
 
 // A tour after a piece, and where the output has come to.
-#[derive(Drop)]
+#[derive(Clone, Copy)]
 pub struct Toured {
     pub tour: Tour,
     pub at: usize,

@@ -27,7 +27,7 @@ use words::{same_word, wide_bits};
 
 // Where a comparison stands: the tour and the edges counted of its body, how far the table agrees and where its next count lies, how far the bodies
 // agree and where they go on.
-#[derive(Drop)]
+#[derive(Clone, Copy)]
 pub struct KerbComparing {
     pub tour: Tour,
     pub count: usize,
@@ -38,7 +38,7 @@ pub struct KerbComparing {
 }
 
 // Where the table goes on after a piece: the edges counted of a body, how far the table agrees, and where its next count lies.
-#[derive(Drop)]
+#[derive(Clone, Copy)]
 pub struct Counted {
     pub count: usize,
     pub table: usize,

@@ -28,7 +28,7 @@ use words::numbers::put_numbers;
 use words::{put_word, wide_bits};
 
 // Where filling stands: the tour and the edges counted of its body, and where the counts and the bodies go on.
-#[derive(Drop)]
+#[derive(Clone, Copy)]
 pub struct KerbFilling {
     pub tour: Tour,
     pub count: usize,
@@ -37,7 +37,7 @@ pub struct KerbFilling {
 }
 
 // Where the counts go on after a piece: the edges counted of a body, and where its count will stand.
-#[derive(Drop)]
+#[derive(Clone, Copy)]
 pub struct PutCount {
     pub count: usize,
     pub table: usize,

@@ -17,7 +17,7 @@ use plane::Vector;
 use plane::direction::step;
 
 // A tour after a piece, where the output has come to, and whether the piece was its body's last.
-#[derive(Drop)]
+#[derive(Clone, Copy)]
 pub struct Pieced {
     pub tour: Tour,
     pub at: usize,

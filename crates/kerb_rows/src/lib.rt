@@ -7,7 +7,7 @@ use replies::Refusal;
 use replies::style_rows::style_fault;
 
 // What the rows of a kerb came to: how many points it has, or why it is refused.
-#[derive(Drop)]
+#[derive(Clone, Copy)]
 pub enum KerbCheck {
     Passed(usize),
     Refused(Refusal),

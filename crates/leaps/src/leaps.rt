@@ -12,7 +12,7 @@ use plane::vectors::{cross, dot, square};
 use turning::Turning;
 
 // Where an arc has come to: about which direction, how far off that is at most, and after how many rotations.
-#[derive(Drop)]
+#[derive(Clone, Copy)]
 pub struct Leap {
     pub direction: Vector,
     pub off: u64,

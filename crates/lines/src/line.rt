@@ -19,7 +19,7 @@ pub fn end(text: &[u8], at: usize) -> usize
 }
 
 // How many numbers were read, and where the line goes on.
-#[derive(Drop)]
+#[derive(Clone, Copy)]
 pub struct Numbers {
     pub count: usize,
     pub at: usize,

@@ -2,14 +2,14 @@
 ghost use Rattle.std.specs.Prelude.{◌<◌, ◌≤◌, length};
 
 // A whole number, its sign and its size apart.
-#[derive(Drop)]
+#[derive(Clone, Copy)]
 pub struct Number {
     pub minus: bool,
     pub size: u64,
 }
 
 // What stands next in a text.
-#[derive(Drop)]
+#[derive(Clone, Copy)]
 pub enum Token {
     Whole(Number),
     LineEnd,
@@ -18,14 +18,14 @@ pub enum Token {
 }
 
 // What stands next, and where the text goes on after it.
-#[derive(Drop)]
+#[derive(Clone, Copy)]
 pub struct Step {
     pub token: Token,
     pub at: usize,
 }
 
 // The size that digits spell.
-#[derive(Drop)]
+#[derive(Clone, Copy)]
 enum Spelt {
     Size(u64),
     Nothing,

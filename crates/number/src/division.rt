@@ -15,7 +15,7 @@ fn spare(den: u64) -> u32
 }
 
 // The number top * 2^t + low, for some t.
-#[derive(Drop)]
+#[derive(Clone, Copy)]
 pub struct Parts {
     pub top: u64,
     pub low: u64,
@@ -42,7 +42,7 @@ fn lift(x: u64, t: u32) -> u64
 }
 
 // A quotient to the nearest, and whether the division left nothing over.
-#[derive(Drop)]
+#[derive(Clone, Copy)]
 pub struct Rounded {
     pub quotient: u64,
     pub exact: bool,
@@ -76,7 +76,7 @@ pub fn nearest(r: u64, num: u64, den: u64) -> Rounded
 }
 
 // A rounded quotient with its sign, and whether the division left nothing over.
-#[derive(Drop)]
+#[derive(Clone, Copy)]
 pub struct Quotient {
     pub value: i64,
     pub exact: bool,

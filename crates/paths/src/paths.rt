@@ -50,7 +50,7 @@ pub fn first_outside(path: &[i32], n: usize) -> usize
 }
 
 // Where a walk stands: the walk, the vertex that it goes to next, and where the output has come to.
-#[derive(Drop)]
+#[derive(Clone, Copy)]
 pub struct Stand {
     pub walk: Walk,
     pub next: usize,

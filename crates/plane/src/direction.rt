@@ -87,7 +87,7 @@ fn part(c: u64, s: u64, k: u32, h: u64) -> u64
 }
 
 // What a direction is taken by: the squared length, its level, and a number near the reciprocal of its root.
-#[derive(Drop)]
+#[derive(Clone, Copy)]
 pub struct Length {
     pub square: u64,
     pub level: u32,

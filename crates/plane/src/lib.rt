@@ -4,14 +4,14 @@ pub mod rotation;
 pub mod vectors;
 
 // A point.
-#[derive(Drop)]
+#[derive(Clone, Copy)]
 pub struct Point {
     pub x: i64,
     pub y: i64,
 }
 
 // The way from one point to another; a direction, in units of 2^-30.
-#[derive(Drop)]
+#[derive(Clone, Copy)]
 pub struct Vector {
     pub x: i64,
     pub y: i64,

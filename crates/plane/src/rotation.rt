@@ -10,7 +10,7 @@ use crate::Vector;
 use crate::vectors::{difference, sum, times};
 
 // A direction turned by a step, its components not yet divided by 2^30.
-#[derive(Drop)]
+#[derive(Clone, Copy)]
 pub struct Swing {
     pub x: i64,
     pub y: i64,

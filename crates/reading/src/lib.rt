@@ -13,7 +13,7 @@ use replies::Refusal;
 pub mod posts;
 
 // What reading an outline came to: how many vertices, which grade and which form, or why not.
-#[derive(Drop)]
+#[derive(Clone, Copy)]
 pub enum Read {
     Vertices(usize, u32, Form),
     Refused(Refusal),

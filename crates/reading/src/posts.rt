@@ -13,7 +13,7 @@ use outline::{Edition, Form};
 use replies::Refusal;
 
 // What reading the posts came to: how many, or why not.
-#[derive(Drop)]
+#[derive(Clone, Copy)]
 pub enum PostsRead {
     Posts(usize),
     Refused(Refusal),

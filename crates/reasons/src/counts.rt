@@ -24,7 +24,7 @@ use turning::edges::edge;
 use variable_stroke::{Chain, Walk};
 
 // A walk after a step, and how many edges the step emits.
-#[derive(Drop)]
+#[derive(Clone, Copy)]
 pub struct Counted {
     pub walk: Walk,
     pub count: usize,

@@ -8,7 +8,7 @@ pub mod labels;
 pub mod listing;
 
 // The rule that emits an edge; numbered from 0 in this order. A side has its exactness, as the edge runs.
-#[derive(Drop)]
+#[derive(Clone, Copy)]
 pub enum Reason {
     LeftSide(Exactness),
     RightSide(Exactness),
@@ -21,7 +21,7 @@ pub enum Reason {
 }
 
 // Why an edge is there: its rule, the vertex whose body holds it (the number of vertices for the closing body), and its place from 0 under that rule.
-#[derive(Drop)]
+#[derive(Clone, Copy)]
 pub struct Why {
     pub reason: Reason,
     pub vertex: usize,
@@ -29,7 +29,7 @@ pub struct Why {
 }
 
 // Why the edge of a number is there, if the path has one.
-#[derive(Drop)]
+#[derive(Clone, Copy)]
 pub enum Explanation {
     Edge(Why),
     NoEdge,

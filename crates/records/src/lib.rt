@@ -6,7 +6,7 @@ use words::signed;
 
 // A vertex as its host holds it, with its point number.
 #[repr(C)]
-#[derive(Drop)]
+#[derive(Clone, Copy)]
 pub struct Record {
     pub x: i32,
     pub y: i32,

@@ -4,7 +4,7 @@ pub mod refusals;
 pub mod style_rows;
 
 // Why a call is refused, each with the number that goes beside its reply. They are appended, never renumbered.
-#[derive(Drop)]
+#[derive(Clone, Copy)]
 pub enum Refusal {
     Uneven(usize),
     TooMany(usize),
@@ -28,7 +28,7 @@ pub enum Refusal {
 }
 
 // A reply, and the number with it.
-#[derive(Drop)]
+#[derive(Clone, Copy)]
 pub struct Code {
     pub reply: u32,
     pub number: u64,

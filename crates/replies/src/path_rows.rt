@@ -7,7 +7,7 @@ use crate::Refusal;
 use paths::paths::first_outside;
 
 // What the rows of a path came to: how many vertices it has, or why it is refused.
-#[derive(Drop)]
+#[derive(Clone, Copy)]
 pub enum PathCheck {
     Passed(usize),
     Refused(Refusal),

@@ -12,7 +12,7 @@ use turning::Sweep;
 
 // What a case comes to: how many numbers its edges take, that a step is broken, the kind of a step and its section, whether a circle is covered,
 // or nothing.
-#[derive(Drop)]
+#[derive(Clone, Copy)]
 pub enum Answer {
     Edges(usize),
     Broken,

@@ -6,7 +6,7 @@ use number::sign::signed;
 use plane::Vector;
 
 // What a case comes to: a number, two, the two limbs of one, or nothing.
-#[derive(Drop)]
+#[derive(Clone, Copy)]
 pub enum Answer {
     One(i64),
     Two(i64, i64),

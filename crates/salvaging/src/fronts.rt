@@ -11,7 +11,7 @@ use replies::Refusal;
 use words::word_at;
 
 // What stands before the bodies of a stroke's store: edition, grade and vertices.
-#[derive(Drop)]
+#[derive(Clone, Copy)]
 pub struct Front {
     pub edition: Edition,
     pub grade: u32,
@@ -19,7 +19,7 @@ pub struct Front {
 }
 
 // What the rows came to: that, or why the store is refused.
-#[derive(Drop)]
+#[derive(Clone, Copy)]
 pub enum FrontCheck {
     Holds(Front),
     Refused(Refusal),

@@ -10,7 +10,7 @@ pub mod fronts;
 pub mod making;
 
 // What salvage came to: how many bytes the outline has and how many notes there are, or why not.
-#[derive(Drop)]
+#[derive(Clone, Copy)]
 pub enum Salvaged {
     Outline(usize, usize),
     Refused(Refusal),

@@ -12,7 +12,7 @@ use replies::refusals::code;
 
 // A reply with its number, and a part of lent bytes: where it begins, and how long it is; all but reply and number 0 when refused.
 #[repr(C)]
-#[derive(Drop)]
+#[derive(Clone, Copy)]
 pub struct Part {
     pub reply: u32,
     pub zero: u32,

@@ -37,7 +37,7 @@ pub mod side_calls;
 
 // Document 01's reply, the grade beside it (of a read outline, else 0), and the number with it.
 #[repr(C)]
-#[derive(Drop)]
+#[derive(Clone, Copy)]
 pub struct Reply {
     pub reply: u32,
     pub grade: u32,
@@ -46,7 +46,7 @@ pub struct Reply {
 
 // What reading came to: the reply, the grade beside it and its number, the kind, and a kerb's radius, join and closed; each 0 where there is none.
 #[repr(C)]
-#[derive(Drop)]
+#[derive(Clone, Copy)]
 pub struct Path {
     pub reply: u32,
     pub grade: u32,
@@ -58,7 +58,7 @@ pub struct Path {
 }
 
 // A form in numbers: the kind, and a kerb's radius, join and closed.
-#[derive(Drop)]
+#[derive(Clone, Copy)]
 pub struct FormNumbers {
     pub kind: u32,
     pub radius: u32,
@@ -68,7 +68,7 @@ pub struct FormNumbers {
 
 // What a float is taken for: 0 and the whole number; or the reason, 1 to 6, and 0.
 #[repr(C)]
-#[derive(Drop)]
+#[derive(Clone, Copy)]
 pub struct Taken {
     pub reason: u32,
     pub whole: i32,

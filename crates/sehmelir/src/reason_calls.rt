@@ -15,7 +15,7 @@ use replies::refusals::code;
 // A reply with its number, and why an edge is there: the reason's number, the vertex and the place, and of a side whether its start and its end are exact
 // (1 or 0; 0 of every other edge); all but reply and number 0 when refused.
 #[repr(C)]
-#[derive(Drop)]
+#[derive(Clone, Copy)]
 pub struct ReasonReply {
     pub reply: u32,
     pub reason: u32,

@@ -10,7 +10,7 @@ use salvaging::Salvaged;
 
 // A reply with its number, and how many entries the list has; entries 0 when refused.
 #[repr(C)]
-#[derive(Drop)]
+#[derive(Clone, Copy)]
 pub struct SalvageReply {
     pub reply: u32,
     pub zero: u32,

@@ -14,14 +14,14 @@ use replies::refusals::code;
 pub mod bodies;
 
 // Which of the two sheets.
-#[derive(Drop)]
+#[derive(Clone, Copy)]
 pub enum Sheet {
     Before,
     After,
 }
 
 // Where a body stands: the byte of its sheet at which it begins, and how many edges it has; or why not.
-#[derive(Drop)]
+#[derive(Clone, Copy)]
 pub enum Located {
     Body(usize, usize),
     Refused(Refusal),

@@ -6,21 +6,21 @@ pub mod kinds;
 pub mod turn;
 
 // An edge, from a to b.
-#[derive(Drop)]
+#[derive(Clone, Copy)]
 pub struct Edge {
     pub a: Point,
     pub b: Point,
 }
 
 // How far an arc turns: less than half a turn, or more.
-#[derive(Drop)]
+#[derive(Clone, Copy)]
 pub enum Sweep {
     Minor,
     Major,
 }
 
 // What an arc keeps while it turns: the step, the centre and radius of its inner points, the end and the end's direction.
-#[derive(Drop)]
+#[derive(Clone, Copy)]
 pub struct Turning {
     pub step: Vector,
     pub centre: Point,

@@ -23,21 +23,21 @@ use plane::Vector;
 use turning::edges::edge;
 
 // A chain, and where the output has come to.
-#[derive(Drop)]
+#[derive(Clone, Copy)]
 pub struct Stepped {
     pub chain: Chain,
     pub at: usize,
 }
 
 // A walk, and where the output has come to.
-#[derive(Drop)]
+#[derive(Clone, Copy)]
 pub struct Walked {
     pub walk: Walk,
     pub at: usize,
 }
 
 // A chain that a covered vertex may have ended, the closing cap, and where the output has come to.
-#[derive(Drop)]
+#[derive(Clone, Copy)]
 pub struct Left {
     pub chain: Chain,
     pub closing: Cap,

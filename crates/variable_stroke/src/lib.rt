@@ -5,7 +5,7 @@ use joins::Cap;
 pub mod builder;
 
 // A chain: its start vertex and start cap, the last drawn section, and the mark that a step was made.
-#[derive(Drop)]
+#[derive(Clone, Copy)]
 pub struct Chain {
     pub start: Vertex,
     pub cap: Cap,
@@ -14,7 +14,7 @@ pub struct Chain {
 }
 
 // A walk over a path: the vertex reached, the chain, the section of the previous step if that was drawn, and the closing cap.
-#[derive(Drop)]
+#[derive(Clone, Copy)]
 pub struct Walk {
     pub at: Vertex,
     pub chain: Chain,
