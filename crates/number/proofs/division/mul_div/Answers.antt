@@ -4,6 +4,7 @@ use Rattle.whole.proofs.Sizes.{sfits_abs}
 use Rattle.whole.proofs.Order.{nonneg, positive}
 use Rattle.number.specs.MulDiv.{with_sign, nearest_of, none_left, exact_of}
 use Rattle.number.proofs.Nearest.{apart, mul-div_sign}
+use Rattle.number.proofs.division.mul_div.Goals.{After-size-2}
 use Rattle.number.proofs.division.mul_div.Goals as goal
 
 pub overflow_cast-d : goal.overflow_cast-d
@@ -13,10 +14,10 @@ overflow_cast-d c =
     simp to_z-of_z (nonneg s.args.d (positive s.requires.2).1, omega (arith, sfits_abs s.ranges.d))
 
 -- the two sizes
-left : (c : goal.After-size-2) → c.size.result ≡ nat_abs c.args.a
+left : (c : After-size-2) → c.size.result ≡ nat_abs c.args.a
 left c = let h = c.ranges.a in simp to_z-of_z at c.size.ensures
 
-right : (c : goal.After-size-2) → c.size-2.result ≡ nat_abs c.args.b
+right : (c : After-size-2) → c.size-2.result ≡ nat_abs c.args.b
 right c = let h = c.ranges.b in simp to_z-of_z at c.size-2.ensures
 
 pub nearest-q-requires : goal.nearest-q-requires

@@ -1,6 +1,7 @@
 -- `number::division::nearest` meets its contract: each need follows from the law `led` of the parts. Assumes nothing.
 use Rattle.std.proofs.Common.{◌≡◌, ℕ, ◌*◌, ◌^◌, ◌<◌, ◌≤◌, ◌⊎◌, ap, inl, inr, arith, pow_pos}
 use Rattle.number.proofs.Leading.{Led, led, up, same, up_exact, same_exact}
+use Rattle.number.proofs.division.nearest.Goals.{After-split-d, After-struct_known-5-1}
 use Rattle.number.proofs.division.nearest.Goals as goal
 
 one_or : (t den : ℕ) → (t ≡ 0) ⊎ (2 ^ 33 * 2 ^ t ≤ den) → (2 ^ t ≡ 1) ⊎ (2 ^ 33 * 2 ^ t ≤ den)
@@ -8,14 +9,14 @@ one_or t den (inl e) = inl (ap (λ (n : ℕ). 2 ^ n) e)
 one_or t den (inr h) = inr h
 
 -- what is known once both are split
-abbrev Known : goal.After-split-d → Type 0
+abbrev Known : After-split-d → Type 0
 Known c =
     let s = c.args in
     let n = c.split-n.result in
     let d = c.split-d.result in
     Led s.r s.num s.den (2 ^ c.spare-t.result) n.top n.low d.top d.low
 
-known : (c : goal.After-split-d) → Known c
+known : (c : After-split-d) → Known c
 known c =
     let s = c.before.before.before in
     let spared = c.spare-t.ensures in
@@ -39,7 +40,7 @@ lift-requires c =
 
 -- what is known at the end
 abbrev Last : Type 0
-Last = goal.After-struct_known-5-1
+Last = After-struct_known-5-1
 
 end : (c : Last) → Known c.before.before.before.before.before.before
 end c = known c.before.before.before.before.before.before

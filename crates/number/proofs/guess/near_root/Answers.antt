@@ -2,9 +2,10 @@
 use Rattle.std.proofs.Common.{◌^◌, ◌≤◌, lt_of_le_of_lt, div-le_self, arith}
 use lib.Count.{count_leading_zeros, leading_top}
 use Rattle.number.proofs.Roots.{second_most}
+use Rattle.number.proofs.guess.near_root.Goals.{Else-n-eq0}
 use Rattle.number.proofs.guess.near_root.Goals as goal
 
-few : (c : goal.Else-n-eq0) → count_leading_zeros 64 c.args.n ≤ 63
+few : (c : Else-n-eq0) → count_leading_zeros 64 c.args.n ≤ 63
 few c = omega (arith, (leading_top 64 c.args.n (omega (arith, c.if-n-eq0.false)) c.ranges.n.fits).1)
 
 pub overflow_cast-z : goal.overflow_cast-z

@@ -1,9 +1,10 @@
 -- `number::root::down` meets its contract: it ends at 0 at the latest. Assumes nothing.
 use Rattle.std.proofs.Common.{◌<◌, arith}
 use Rattle.number.proofs.Roots.{not_none}
+use Rattle.number.proofs.root.down.Goals.{In-loop-r}
 use Rattle.number.proofs.root.down.Goals as goal
 
-some : (c : goal.In-loop-r) → 0 < c.loop-r.r
+some : (c : In-loop-r) → 0 < c.loop-r.r
 some c = not_none _ _ (rw c.square.ensures at c.loop-r-test.true)
 
 pub loop-r-init : goal.loop-r-init

@@ -2,12 +2,13 @@
 use Rattle.std.proofs.Common.{◌<◌, sym, arith, rules}
 use Rattle.whole.proofs.Squares.{square_below}
 use Rattle.number.proofs.Roots.{up_holds, up_tells, up-none, up_large}
+use Rattle.number.proofs.root.times_root_up_at_most.Goals.{Else-r-eq0}
 use Rattle.number.proofs.root.times_root_up_at_most.Goals as goal
 
 pub returns-then-r-eq0 : goal.returns-then-r-eq0
 returns-then-r-eq0 c = sym (up-none _ _ _ c.if-r-eq0.true)
 
-some : (c : goal.Else-r-eq0) → 0 < c.args.r
+some : (c : Else-r-eq0) → 0 < c.args.r
 some c = search rules
 
 pub returns-then-q-ge2147483648 : goal.returns-then-q-ge2147483648

@@ -2,10 +2,11 @@
 use Rattle.std.proofs.Common.{◌+◌, ◌*◌, ◌^◌, ◌≤◌, arith}
 use Rattle.whole.proofs.Squares.{square_lt}
 use Rattle.number.proofs.Roots.{root_only}
+use Rattle.number.proofs.root.up.Goals.{In-loop-r}
 use Rattle.number.proofs.root.up.Goals as goal
 
 -- the square of one more is within too
-within : (c : goal.In-loop-r) → (c.loop-r.r + 1) * (c.loop-r.r + 1) ≤ c.args.n
+within : (c : In-loop-r) → (c.loop-r.r + 1) * (c.loop-r.r + 1) ≤ c.args.n
 within c = omega (arith, c.square.ensures, c.loop-r-test.true)
 
 pub loop-r-init : goal.loop-r-init

@@ -3,12 +3,13 @@ use Rattle.std.proofs.Common.{◌≡◌, true, false, pos, ◌-ℤ◌, arith, to
 use mir.Facts.{to_z_pos}
 use Rattle.whole.proofs.Sizes.{sfits}
 use Rattle.whole.proofs.Order.{abs_minus, minus_is}
+use Rattle.number.proofs.sign.signed.Goals.{Start}
 use Rattle.number.proofs.sign.signed.Goals as goal
 
-read : (c : goal.Start) → to_z w64 c.args.n ≡ pos c.args.n
+read : (c : Start) → to_z w64 c.args.n ≡ pos c.args.n
 read c = to_z_pos w64 c.requires
 
-fit : (c : goal.Start) → SFits w64 (pos 0 -ℤ pos c.args.n)
+fit : (c : Start) → SFits w64 (pos 0 -ℤ pos c.args.n)
 fit c = sfits (omega (arith, abs_minus (pos c.args.n), c.requires))
 
 pub overflow_sub-result : goal.overflow_sub-result

@@ -3,22 +3,23 @@ use Rattle.std.proofs.Common.{◌≡◌, true, false, ℤ, pos, ◌+ℤ◌, ◌-
 use lib.Signed.{lt_z, mag}
 use Rattle.whole.proofs.Sizes.{sfits, sfits_abs}
 use Rattle.whole.proofs.Order.{nonneg, not_neg, abs_minus, minus_next, next_size}
+use Rattle.number.proofs.sign.size.Goals.{Then-a-lt0}
 use Rattle.number.proofs.sign.size.Goals as goal
 
-below : (c : goal.Then-a-lt0) → lt_z c.args.a (pos 0) ≡ true
+below : (c : Then-a-lt0) → lt_z c.args.a (pos 0) ≡ true
 below c = let h = c.ranges.a in simp to_z-of_z at c.if-a-lt0.true
 
-next_fits : (c : goal.Then-a-lt0) → SFits w64 (c.args.a +ℤ pos 1)
+next_fits : (c : Then-a-lt0) → SFits w64 (c.args.a +ℤ pos 1)
 next_fits c =
     let a = c.args.a in
     let e : nat_abs (a +ℤ pos 1) ≡ mag a = sym (abs_minus (a +ℤ pos 1)) ∙ ap nat_abs (minus_next a (below c)) in
     sfits (omega (arith, e, c.ranges.a.sfits))
 
-minus_fits : (c : goal.Then-a-lt0) → SFits w64 (pos 0 -ℤ (c.args.a +ℤ pos 1))
+minus_fits : (c : Then-a-lt0) → SFits w64 (pos 0 -ℤ (c.args.a +ℤ pos 1))
 minus_fits c = subst (λ (z : ℤ). SFits w64 z) (sym (minus_next c.args.a (below c))) (record { sfits = c.ranges.a.sfits })
 
 -- what the subtraction leaves, as the machine reads it
-left : (c : goal.Then-a-lt0) → to_z w64 (of_z w64 (pos 0 -ℤ to_z w64 (of_z w64 (to_z w64 (of_z w64 c.args.a) +ℤ pos 1)))) ≡ pos (mag c.args.a)
+left : (c : Then-a-lt0) → to_z w64 (of_z w64 (pos 0 -ℤ to_z w64 (of_z w64 (to_z w64 (of_z w64 c.args.a) +ℤ pos 1)))) ≡ pos (mag c.args.a)
 left c =
     let h = c.ranges.a in
     let k = next_fits c in

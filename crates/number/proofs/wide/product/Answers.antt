@@ -1,9 +1,10 @@
 -- `number::wide::product` meets its contract. Assumes nothing.
 use Rattle.std.proofs.Common.{ℕ, ◌+◌, ◌*◌, ◌/◌, ◌%◌, ◌^◌, ap, ◌∙◌, arith}
 use Rattle.number.proofs.Limbs.{Halves, halves, whole, again, Hi}
+use Rattle.number.proofs.wide.product.Goals.{Start}
 use Rattle.number.proofs.wide.product.Goals as goal
 
-known : (c : goal.Start) → Halves c.args.a c.args.b
+known : (c : Start) → Halves c.args.a c.args.b
 known c = halves c.args.a c.args.b c.ranges.a.fits c.ranges.b.fits
 
 pub overflow_mul-w : goal.overflow_mul-w

@@ -1,0 +1,24 @@
+-- `calls::keep` meets its contract: the own numbers are as many as the grade asks for. Assumes nothing.
+use borrow.Author.Rules.{rules}
+use native.Mathlib.Omega.{arith}
+use Rattle.own_room.proofs.StepRooms.{numbers_few, numbers_any}
+use Rattle.calls.proofs.keep.Goals as goal
+
+pub keep_with-requires : goal.keep_with-requires
+keep_with-requires c = numbers_few {g = c.args.grade} (omega (arith, c.if-grade-le4.true)) (search rules)
+
+pub keep_with-requires-2 : goal.keep_with-requires-2
+keep_with-requires-2 c = numbers_any c.args.grade (search rules)
+
+pub keep_spec : {M : Type 1} → statement M
+keep_spec =
+    tie.close
+    (tie.spec
+    slice-aggregate-keep-with
+    keep-with-requires
+    same_length
+    returns
+    slice-aggregate-keep-with-2
+    keep-with-requires-2
+    same-length-2
+    returns-2)

@@ -1,0 +1,14 @@
+-- `calls::replace_vertex` meets its contract: the own numbers are as many as the store asks for. Assumes nothing.
+use mathlib.Core.Path.{sym, ◌∙◌}
+use borrow.Author.Rules.{rules}
+use Rattle.checking.proofs.StoreRooms.{few_path, few_posts, few_own, many_path, many_posts, many_own}
+use Rattle.calls.proofs.replace_vertex.Goals as goal
+
+pub replace_with-requires : goal.replace_with-requires
+replace_with-requires c =
+    let s = c.args.store.now in
+    let e = sym c.is_small.ensures ∙ c.if-is_small.true in
+    (few_path s e (search rules), few_posts s e (search rules), few_own s e (search rules))
+
+pub replace_with-requires-2 : goal.replace_with-requires-2
+replace_with-requires-2 c = let s = c.args.store.now in (many_path s (search rules), many_posts s (search rules), many_own s (search rules))

@@ -1,0 +1,30 @@
+-- `chunk_adding::add` meets its contract: the own numbers are as many as the store asks for. Assumes nothing.
+use mathlib.Core.Path.{sym, ◌∙◌}
+use borrow.Author.Rules.{rules}
+use Rattle.checking.proofs.StoreRooms.{few_path, few_own, many_path, many_own}
+use Rattle.chunk_adding.proofs.add.Goals as goal
+
+pub add_with-requires : goal.add_with-requires
+add_with-requires c =
+    let s = c.args.store.now in
+    let e = sym c.is_small.ensures ∙ c.if-is_small.true in
+    (few_path s e (search rules), few_own s e (search rules))
+
+pub add_with-requires-2 : goal.add_with-requires-2
+add_with-requires-2 c = let s = c.args.store.now in (many_path s (search rules), many_own s (search rules))
+
+pub add_spec : {M : Type 1} → statement M
+add_spec =
+    tie.close
+    (tie.spec
+    is-small-requires
+    slice-aggregate-add-with
+    slice-aggregate-add-with-2
+    add-with-requires
+    same_length
+    returns
+    slice-aggregate-add-with-3
+    slice-aggregate-add-with-4
+    add-with-requires-2
+    same-length-2
+    returns-2)

@@ -1,0 +1,19 @@
+-- `contacts::math::numerator` meets its contract: the fields and the scaled delta come back from their bits. Assumes nothing.
+use Rattle.plane.proofs.Products.{near_back}
+use Rattle.contacts.proofs.Tangents.{scaled_size, wide_back, numerator_back}
+use Rattle.contacts.proofs.math.numerator.Goals as goal
+
+pub difference-requires : goal.difference-requires
+difference-requires c =
+    let s = c.before.before.before in
+    (scaled_size _ _ s.ranges.delta s.requires.1 c.scaled-e.ensures, near_back s.requires.0.x, wide_back s.requires.3, near_back s.requires.0.y)
+
+pub sum-requires : goal.sum-requires
+sum-requires c =
+    let s = c.before.before.before.before.before.before in
+    (scaled_size _ _ s.ranges.delta s.requires.1 c.scaled-e.ensures, near_back s.requires.0.y, wide_back s.requires.3, near_back s.requires.0.x)
+
+pub returns : goal.returns
+returns c =
+    let s = c.before.before.before.before.before.before.before in
+    numerator_back _ _ _ _ s.requires.0 s.ranges.delta s.requires.1 s.requires.3 c.scaled-e.ensures c.difference.ensures c.sum.ensures

@@ -1,0 +1,23 @@
+-- `contacts::sections::covered` meets its contract: the case of the section held, then the larger radius, then the section. Assumes nothing.
+use Rattle.contacts.proofs.Covers.{held_around, covered_nothing, covered_not, covered_as}
+use Rattle.contacts.proofs.sections.covered.Goals as goal
+
+pub covers_circle-requires : goal.covers_circle-requires
+covers_circle-requires c =
+    let s = c.before.before.before.before.before.before.before.before.before in
+    (held_around _ c.last-1.given.1 s.requires.0, s.requires.1)
+
+pub returns-in-Nothing : goal.returns-in-Nothing
+returns-in-Nothing c = covered_nothing _ _ c.enum_told-1.given.1
+
+pub returns-then-b-larger : goal.returns-then-b-larger
+returns-then-b-larger c =
+    let l = c.before.before.before.before in
+    covered_as _ _ c.last-1.given.1 c.requires.1
+    l.larger.ensures (record { sfits = l.larger.type_inv }) c.if-b-larger.true c.covers_circle.ensures
+
+pub returns-else-b-larger : goal.returns-else-b-larger
+returns-else-b-larger c =
+    let l = c.before.before.before in
+    covered_not _ _ c.last-1.given.1 c.requires.1
+    l.larger.ensures (record { sfits = l.larger.type_inv }) c.if-b-larger.false

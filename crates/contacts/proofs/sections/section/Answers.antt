@@ -1,0 +1,25 @@
+-- `contacts::sections::section` meets its contract: its contacts are those of the step's offsets, which leave room. Assumes nothing.
+use Rattle.contacts.proofs.Tangents.{Offset, offsets_ready, offsets_are, left_ready, right_ready, contacts_are, section_is}
+use Rattle.contacts.proofs.sections.section.Goals.{After-tangent_offsets-offsets}
+use Rattle.contacts.proofs.sections.section.Goals as goal
+
+pub tangent_offsets-offsets-requires : goal.tangent_offsets-offsets-requires
+tangent_offsets-offsets-requires c = offsets_ready c.requires.0 c.requires.1 c.line.ensures c.delta.ensures c.requires.2
+
+offsets : (c : After-tangent_offsets-offsets) →
+    let s = c.args in
+    let o = c.tangent_offsets-offsets.result in
+    Offset s.a s.b o.left o.right o.divisor
+offsets c =
+    let s = c.before.before.before in
+    let e = c.tangent_offsets-offsets.ensures in
+    offsets_are s.requires.0 s.requires.1 c.line.ensures c.delta.ensures e.0 e.1.0 e.1.1
+
+pub contacts-left_side-requires : goal.contacts-left_side-requires
+contacts-left_side-requires c = left_ready c.requires.0 c.requires.1 c.requires.2 (offsets c.before.before)
+
+pub contacts-right_side-requires : goal.contacts-right_side-requires
+contacts-right_side-requires c = right_ready c.requires.0 c.requires.1 c.requires.2 (offsets c.before.before.before)
+
+pub returns : goal.returns
+returns c = section_is _ _ (offsets c.before.before.before.before.before.before.before.before.before) (contacts_are c.contacts-left_side.ensures.0 c.contacts-left_side.ensures.1) (contacts_are c.contacts-right_side.ensures.0 c.contacts-right_side.ensures.1) c.trend.ensures

@@ -1,0 +1,29 @@
+-- `editing::replacing::replace_with` meets its contract: a refusal is that of the shared rows; in a store that passed them the vertex is changed. Assumes nothing.
+use borrow.Author.Rules.{rules}
+use Rattle.checking.proofs.KnownStore.{passed}
+use Rattle.editing.proofs.StoreRefused.{replace_refused}
+use Rattle.editing.proofs.replacing.replace_with.Goals as goal
+
+pub change_stroke-requires : goal.change_stroke-requires
+change_stroke-requires c = (passed c.checked-in-Holds-1.given.1 c.check-checked.ensures, search rules, search rules)
+
+pub returns-in-Refused : goal.returns-in-Refused
+returns-in-Refused c = replace_refused _ _ c.checked-1.given.1 c.check-checked.ensures
+
+pub replace_with_spec : {M : Type 1} → statement M
+replace_with_spec =
+    tie.close
+    (tie.spec
+    check-requires
+    enum-known-checked
+    enum-known-checked-2
+    change-stroke-requires
+    same_length
+    same-length-2
+    same-length-3
+    returns
+    same-length-4
+    same-length-5
+    same-length-6
+    same-length-7
+    returns-2)

@@ -1,0 +1,15 @@
+-- `kerb::touring::held` meets its contract: the first stays. Assumes nothing.
+use mathlib.Core.Path.{sym, ap}
+use Rattle.kerb.specs.Tours.{held_of}
+use Rattle.kerb.proofs.touring.held.Goals as goal
+
+pub returns-in-Held : goal.returns-in-Held
+unfolding held_of
+returns-in-Held c = ap (λ e. held_of e c.args.s) (sym c.span-1.given.1)
+
+pub returns-in-Nothing : goal.returns-in-Nothing
+unfolding held_of
+returns-in-Nothing c = ap (λ e. held_of e c.args.s) (sym c.enum_told-1.given.1)
+
+pub held_spec : {M : Type 1} → statement M
+held_spec = tie.close (tie.spec enum-known-span enum_told returns returns-2)

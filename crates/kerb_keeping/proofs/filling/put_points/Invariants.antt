@@ -1,0 +1,16 @@
+-- `kerb_keeping::filling::put_points` meets its contract: what is left of the points is put on, point by point. Assumes nothing.
+use mathlib.Core.Path.{◌≡◌}
+use Prim.Native.Nat.{◌+◌, ◌-◌, ◌*◌, ◌≤◌}
+use lib.ListN.{drop}
+use Rattle.runs.specs.Runs.{spread, put}
+use Rattle.runs.proofs.Onward.{Onward}
+use Rattle.kerb_paths.specs.Points.{kerb_path}
+use Rattle.words.specs.Words.{four_bytes}
+use Rattle.outline.specs.Outlines.{point_words}
+use Rattle.kerb_keeping.proofs.filling.put_points.Given as goal
+
+abbrev pub invariant-loop-k : goal.invariant-loop-k
+invariant-loop-k l = (l.k ≤ l.n) × (l.at ≡ 32 + 8 * l.k) × Onward put four_bytes l.initial.s 32 (spread point_words (kerb_path l.y.radius l.points)) l.s l.at (spread point_words (drop l.k (kerb_path l.y.radius l.points)))
+
+abbrev pub decreases-loop-k : goal.decreases-loop-k
+decreases-loop-k l = l.n - l.k

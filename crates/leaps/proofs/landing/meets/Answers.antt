@@ -1,0 +1,12 @@
+-- `leaps::landing::meets` meets its contract: the coordinates lie between those of the lowest and the highest component. Assumes nothing.
+use Rattle.leaps.proofs.Landed.{meets_both, meets_none}
+use Rattle.leaps.proofs.landing.meets.Goals as goal
+
+pub returns-then-coordinate-to : goal.returns-then-coordinate-to
+returns-then-coordinate-to c =
+    let t = c.before.before in
+    let s = t.before.before.before in
+    meets_both _ _ _ _ s.requires.0 s.requires.1 s.requires.2 s.ranges.to t.lowest.ensures t.coordinate.type_inv t.coordinate.ensures c.highest.ensures c.coordinate-then-coordinate-to.type_inv c.coordinate-then-coordinate-to.ensures t.if-coordinate-to.true
+
+pub returns : goal.returns
+returns c = meets_none

@@ -1,0 +1,26 @@
+-- `leaps::landing::misses` meets its contract: one coordinate that is missed will do. Assumes nothing.
+use Rattle.plane.proofs.Products.{short_back, small_back}
+use Rattle.plane.proofs.Directions.{unit_short}
+use Rattle.turning.proofs.Limits.{radius_told_lem}
+use Rattle.leaps.proofs.Landed.{misses_x, misses_y}
+use Rattle.leaps.proofs.landing.misses.Goals as goal
+
+pub passes-requires : goal.passes-requires
+passes-requires c =
+    let h = c.requires in
+    (small_back h.0.centre.x, radius_told_lem h.0.radius, short_back (unit_short h.1).x, h.2)
+
+pub returns-then-passes : goal.returns-then-passes
+returns-then-passes c =
+    let s = c.before.before.before.before.before.before in
+    misses_x _ _ s.requires.0 s.requires.1 c.passes.ensures c.if-passes.true
+
+pub passes-requires-2 : goal.passes-requires-2
+passes-requires-2 c =
+    let h = c.requires in
+    (small_back h.0.centre.y, radius_told_lem h.0.radius, short_back (unit_short h.1).y, h.2)
+
+pub returns : goal.returns
+returns c =
+    let s = c.before.before.before.before.before.before.before.before.before.before.before in
+    misses_y _ _ s.requires.0 s.requires.1 c.passes-2.ensures

@@ -1,0 +1,13 @@
+-- `leaps::landing::passes` meets its contract: the coordinates lie between those of the lowest and the highest component. Assumes nothing.
+use Rattle.leaps.proofs.Landed.{passes_low, passes_high}
+use Rattle.leaps.proofs.landing.passes.Goals as goal
+
+pub returns-then-to-coordinate : goal.returns-then-to-coordinate
+returns-then-to-coordinate c =
+    let s = c.before.before.before in
+    passes_low _ _ _ _ s.requires.0 s.requires.1 s.requires.2 s.ranges.to c.lowest.ensures c.coordinate.type_inv c.coordinate.ensures c.if-to-coordinate.true
+
+pub returns : goal.returns
+returns c =
+    let s = c.before.before.before.before.before in
+    passes_high _ _ _ _ s.requires.0 s.requires.1 s.requires.2 s.ranges.to c.highest.ensures c.coordinate-2.type_inv c.coordinate-2.ensures

@@ -1,0 +1,12 @@
+-- `outline::layout::edition_number` meets its contract: by the edition. Assumes nothing.
+use mathlib.Core.Path.{sym, ap}
+use Rattle.outline.specs.Layout.{edition_number}
+use Rattle.outline.proofs.layout.edition_number.Goals as goal
+
+pub returns-in-First : goal.returns-in-First
+unfolding edition_number
+returns-in-First c = sym (ap edition_number c.enum_told-1.given.1)
+
+pub returns-in-Second : goal.returns-in-Second
+unfolding edition_number
+returns-in-Second c = sym (ap edition_number c.enum_told-in-Second-1.given.1)

@@ -1,0 +1,30 @@
+-- `paths::paths::first_outside` meets its contract: all before k are within; what is left of the path is passed over one by one. Assumes nothing.
+use mathlib.Core.Path.{sym, ◌∙◌}
+use native.Mathlib.Omega.{arith}
+use Rattle.paths.specs.Paths.{path_of}
+use Rattle.paths.proofs.PathWalk.{outside_skip, outside_here, outside_end}
+use Rattle.paths.proofs.paths.first_outside.Goals as goal
+
+pub loop-k-init : goal.loop-k-init
+loop-k-init c = (omega arith, omega arith)
+
+pub vertex-requires : goal.vertex-requires
+vertex-requires c = omega arith
+
+pub allowed-requires : goal.allowed-requires
+allowed-requires c = tt
+
+pub overflow_add-k : goal.overflow_add-k
+overflow_add-k c = omega arith
+
+pub loop-k-smaller : goal.loop-k-smaller
+loop-k-smaller c = omega arith
+
+pub loop-k-preserved : goal.loop-k-preserved
+loop-k-preserved c = omega (arith, outside_skip (path_of c.args.path.now) c.loop-k.k (omega arith) c.vertex.ensures (sym c.allowed.ensures ∙ c.if-allowed.true))
+
+pub returns-else-allowed : goal.returns-else-allowed
+returns-else-allowed c = omega (arith, outside_here (path_of c.args.path.now) c.loop-k.k (omega arith) c.vertex.ensures (sym c.allowed.ensures ∙ c.if-allowed.false))
+
+pub returns : goal.returns
+returns c = omega (arith, outside_end (path_of c.args.path.now) c.loop-k.k (omega arith))

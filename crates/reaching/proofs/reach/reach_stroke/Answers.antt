@@ -1,0 +1,12 @@
+-- `reaching::reach::reach_stroke` meets its contract: a kerb is refused, and of a stroke the reach is told. Assumes nothing.
+use Rattle.reaching.proofs.StoreReach.{path_held, reach_other, reach_passed}
+use Rattle.reaching.proofs.reach.reach_stroke.Goals as goal
+
+pub reach_in-requires : goal.reach_in-requires
+reach_in-requires c = path_held c.requires c.enum_told-in-Stroke-1.given.1
+
+pub returns-in-Kerb : goal.returns-in-Kerb
+returns-in-Kerb c = reach_other c.requires c.args.index c.enum_told-1.given.1
+
+pub returns-in-Stroke : goal.returns-in-Stroke
+returns-in-Stroke c = reach_passed c.requires c.enum_told-in-Stroke-1.given.1 _ c.reach_in.ensures

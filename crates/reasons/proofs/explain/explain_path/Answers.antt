@@ -1,0 +1,16 @@
+-- `reasons::explain::explain_path` meets its contract: the five numbers at the edge's place in the list, if the list reaches so far. Assumes nothing.
+use mathlib.Core.Path.{refl}
+use native.Mathlib.Omega.{arith}
+use Rattle.paths.specs.Paths.{path_of}
+use Rattle.reasons.specs.Reasons.{whys_of}
+use Rattle.reasons.proofs.OneEdge.{explained_none, explained_edge, whys_few}
+use Rattle.reasons.proofs.explain.explain_path.Goals as goal
+
+pub returns-then-edge-ge4294967296 : goal.returns-then-edge-ge4294967296
+returns-then-edge-ge4294967296 c = explained_none (whys_of c.args.grade (path_of c.args.path.now)) c.args.edge (omega (arith, whys_few c.args.grade (path_of c.args.path.now) c.requires.1, c.if-edge-ge4294967296.true))
+
+pub returns-then-numbers-from : goal.returns-then-numbers-from
+returns-then-numbers-from c = explained_none (whys_of c.args.grade (path_of c.args.path.now)) c.args.edge (omega (arith, c.list_path-numbers.ensures.1, c.if-numbers-from.true))
+
+pub returns : goal.returns
+returns c = explained_edge (whys_of c.args.grade (path_of c.args.path.now)) c.args.edge c.args.one.now c.requires.2 (omega (arith, c.list_path-numbers.ensures.1, c.if-numbers-from.false)) c.list_path-numbers.ensures.0 refl refl refl c.named-reason.ensures refl refl

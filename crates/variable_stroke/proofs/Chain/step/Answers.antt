@@ -1,0 +1,9 @@
+-- `variable_stroke::Chain::step` meets its contract: the edges drawn, the section held, the mark set. Assumes nothing.
+use Rattle.variable_stroke.proofs.ChainSteps.{marked_is}
+use Rattle.variable_stroke.proofs.Chain.step.Goals as goal
+
+pub returns : goal.returns
+returns c = record { chain = marked_is _ _; made = c.drawn-n.ensures }
+
+pub step_spec : {M : Type 1} → statement M
+step_spec = tie.close (tie.spec drawn-requires same_length returns)

@@ -1,0 +1,18 @@
+-- `variable_stroke::Walk::leave` meets its contract: the chain ended where b is covered, else as it was. Assumes nothing.
+use Rattle.runs.proofs.Laws.{room_as}
+use Rattle.variable_stroke.proofs.ChainSteps.{leave_finishes, leave_yes, leave_no}
+use Rattle.variable_stroke.proofs.Walk.leave.Goals as goal
+
+pub finish-ended-requires : goal.finish-ended-requires
+finish-ended-requires c =record { unit_long = (c.requires.unit_long.0, c.requires.unit_long.1.chain); room = room_as (leave_finishes _ _ _ c.covered.ensures c.if-covered.true) c.requires.room }
+
+pub returns-then-covered : goal.returns-then-covered
+returns-then-covered c = leave_yes _ _ _ c.covered.ensures c.if-covered.true c.finish-ended.ensures c.start-begun.ensures
+
+pub returns : goal.returns
+returns c = leave_no _ _ _ c.covered.ensures c.if-covered.false
+
+pub leave_spec : {M : Type 1} → statement M
+leave_spec =
+    tie.close
+    (tie.spec covered-requires finish-requires start-requires same_length returns returns-2)
