@@ -9,16 +9,3 @@ keep_with-requires c = numbers_few {g = c.args.grade} (omega (arith, c.if-grade-
 
 pub keep_with-requires-2 : goal.keep_with-requires-2
 keep_with-requires-2 c = numbers_any c.args.grade (search rules)
-
-pub keep_spec : {M : Type 1} → statement M
-keep_spec =
-    tie.close
-    (tie.spec
-    slice-aggregate-keep-with
-    keep-with-requires
-    same_length
-    returns
-    slice-aggregate-keep-with-2
-    keep-with-requires-2
-    same-length-2
-    returns-2)

@@ -12,19 +12,3 @@ read_with-requires c =
 
 pub read_with-requires-2 : goal.read_with-requires-2
 read_with-requires-2 c = let s = c.args.store.now in (many_path s (search rules), many_own s (search rules))
-
-pub read_spec : {M : Type 1} → statement M
-read_spec =
-    tie.close
-    (tie.spec
-    is-small-requires
-    slice-aggregate-read-with
-    slice-aggregate-read-with-2
-    read-with-requires
-    same_length
-    returns
-    slice-aggregate-read-with-3
-    slice-aggregate-read-with-4
-    read-with-requires-2
-    same-length-2
-    returns-2)

@@ -13,6 +13,3 @@ overflow_cast-r c = wide_fits c.ranges.radius
 
 pub returns : goal.returns
 returns c = of_same (wide_same c.ranges.x) (wide_same c.ranges.y) (wide_same c.ranges.radius) c.replace_vertex.ensures
-
-pub replace_spec : {M : Type 1} → statement M
-replace_spec = tie.close (tie.spec cast-a cast-b cast-r replace-vertex-requires same_length returns)

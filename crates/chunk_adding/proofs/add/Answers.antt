@@ -12,19 +12,3 @@ add_with-requires c =
 
 pub add_with-requires-2 : goal.add_with-requires-2
 add_with-requires-2 c = let s = c.args.store.now in (many_path s (search rules), many_own s (search rules))
-
-pub add_spec : {M : Type 1} → statement M
-add_spec =
-    tie.close
-    (tie.spec
-    is-small-requires
-    slice-aggregate-add-with
-    slice-aggregate-add-with-2
-    add-with-requires
-    same_length
-    returns
-    slice-aggregate-add-with-3
-    slice-aggregate-add-with-4
-    add-with-requires-2
-    same-length-2
-    returns-2)

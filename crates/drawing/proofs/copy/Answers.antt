@@ -43,20 +43,3 @@ shape_of-out c = c.loop-j.invariant.1
 
 pub returns : goal.returns
 returns c = c.loop-j.invariant.2 ∙ ap (λ (k : ℕ). over put c.args.out.now 0 (take k c.args.from.now)) (le_antisymm c.loop-j.invariant.0 c.loop-j-test.false)
-
-pub copy_spec : {M : Type 1} → statement M
-copy_spec =
-    tie.close
-    (tie.spec
-    invariant-loop
-    decreases-loop
-    loop-holds
-    mul-out
-    shared-slice-copy-out-out
-    mul-t9
-    slice-set-from-out
-    add-j
-    loop-less
-    loop-again
-    same_length
-    returns)

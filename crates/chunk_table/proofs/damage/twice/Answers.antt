@@ -45,23 +45,3 @@ loop-k-preserved c = (omega arith, omega (arith, c.loop-k-test.true), twice_next
 
 pub returns : goal.returns
 returns c = twice_last _ _ c.loop-k.invariant.2 (rest_none _ _ _ c.requires.1.held c.loop-k-test.false)
-
-pub twice_spec : {M : Type 1} → statement M
-twice_spec =
-    tie.close
-    (tie.spec
-    invariant-loop
-    decreases-loop
-    loop-holds
-    sub-i
-    mul-i
-    shared-slice-read-i
-    mul-j
-    shared-slice-read-j
-    key-at-requires
-    key-at-requires-2
-    returns
-    add-k
-    loop-less
-    loop-again
-    returns-2)

@@ -5,6 +5,3 @@ use Rattle.chunk_table.proofs.table.is_empty.Goals as goal
 pub returns : goal.returns
 unfolding empty_at
 returns c = rw c.size_at.ensures.0
-
-pub is_empty_spec : {M : Type 1} → statement M
-is_empty_spec = tie.close (tie.spec size-at-requires returns)

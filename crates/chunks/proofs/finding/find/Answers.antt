@@ -25,16 +25,3 @@ size_at-requires c = omega (arith, c.entry_count-n.ensures, (sound_table _ (sym 
 
 pub returns : goal.returns
 returns c = find_found _ _ (sym c.damaged.ensures ∙ c.if-damaged.false) c.entry_count-n.ensures c.key_entry-i.ensures c.if-n-i.false c.offset_at.ensures.0 c.size_at.ensures.0
-
-pub find_spec : {M : Type 1} → statement M
-find_spec =
-    tie.close
-    (tie.spec
-    damaged-requires
-    returns
-    entry-count-requires
-    key-entry-requires
-    returns-2
-    offset-at-requires
-    size-at-requires
-    returns-3)

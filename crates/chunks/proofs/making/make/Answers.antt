@@ -14,17 +14,3 @@ returns-then-c-end c = make_past _ _ c.if-c-gt-MOST_BYTES.false c.if-n-gt-MOST_E
 
 pub returns : goal.returns
 returns c = make_done _ _ c.if-c-gt-MOST_BYTES.false c.if-n-gt-MOST_ENTRIES.false c.if-c-end.false (word_put _ c.place_word.ensures) c.clear_bytes.ensures
-
-pub make_spec : {M : Type 1} → statement M
-make_spec =
-    tie.close
-    (tie.spec
-    returns
-    returns-2
-    mul-rest
-    add-end
-    returns-3
-    place-word-requires
-    clear-bytes-requires
-    same_length
-    returns-4)

@@ -15,6 +15,3 @@ cross-requires c =
 
 pub returns : goal.returns
 returns c = turn_back _ c.from_to.ensures c.from_to-2.ensures c.cross.ensures (record { sfits = c.cross.type_inv })
-
-pub turn_spec : {M : Type 1} → statement M
-turn_spec = tie.close (tie.spec from-to-requires from-to-requires-2 cross-requires returns)

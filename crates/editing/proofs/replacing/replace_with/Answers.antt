@@ -9,21 +9,3 @@ change_stroke-requires c = (passed c.checked-in-Holds-1.given.1 c.check-checked.
 
 pub returns-in-Refused : goal.returns-in-Refused
 returns-in-Refused c = replace_refused _ _ c.checked-1.given.1 c.check-checked.ensures
-
-pub replace_with_spec : {M : Type 1} → statement M
-replace_with_spec =
-    tie.close
-    (tie.spec
-    check-requires
-    enum-known-checked
-    enum-known-checked-2
-    change-stroke-requires
-    same_length
-    same-length-2
-    same-length-3
-    returns
-    same-length-4
-    same-length-5
-    same-length-6
-    same-length-7
-    returns-2)

@@ -7,6 +7,3 @@ returns-in-Straight c = width_straight c.enum_told-1.given.1
 
 pub returns-in-Bent : goal.returns-in-Bent
 returns-in-Bent c = width_bent c.enum_told-in-Bent-1.given.1
-
-pub width_spec : {M : Type 1} → statement M
-width_spec = tie.close (tie.spec enum_told enum-told-2 returns returns-2)

@@ -38,21 +38,3 @@ pub returns : goal.returns
 returns c =
     let p = path_of c.args.path.now in
     fill_all c.args.edition _ c.args.posts.now p (omega (arith, c.requires.0, some _ c.if-n-eq0.false)) c.vertex-a.ensures c.post-p.ensures c.new.ensures c.step-t.ensures c.put_entry-table.ensures c.requires.0 c.front-base.ensures c.fill_from.ensures
-
-pub fill_spec : {M : Type 1} → statement M
-fill_spec =
-    tie.close
-    (tie.spec
-    front-requires
-    put-word-requires
-    same_length
-    returns
-    step-requires
-    vertex-requires
-    post-requires
-    put-entry-requires
-    new-requires
-    fill-from-requires
-    same-length-2
-    same-length-3
-    returns-2)

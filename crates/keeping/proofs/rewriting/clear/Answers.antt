@@ -23,17 +23,3 @@ shape_of-s c = c.loop-i.invariant.long
 
 pub returns : goal.returns
 returns c = clear_end c.loop-i.invariant c.loop-i-test.false
-
-pub clear_spec : {M : Type 1} → statement M
-clear_spec =
-    tie.close
-    (tie.spec
-    invariant-loop
-    decreases-loop
-    loop-holds
-    put-byte-requires
-    add-i
-    loop-less
-    loop-again
-    same_length
-    returns)

@@ -8,6 +8,3 @@ walk-requires c =record { n_value = (c.requires.0, c.requires.1.inside, step_uni
 
 pub returns : goal.returns
 returns c = count_of _ _ c.step.ensures c.walk.ensures
-
-pub count_spec : {M : Type 1} → statement M
-count_spec = tie.close (tie.spec step-requires slice-aggregate-walk walk-requires returns)

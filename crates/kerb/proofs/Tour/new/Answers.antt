@@ -6,6 +6,3 @@ use Rattle.kerb.proofs.Tour.new.Goals as goal
 pub returns : goal.returns
 unfolding tour_from
 returns c = refl
-
-pub new_spec : {M : Type 1} → statement M
-new_spec = tie.close (tie.spec returns)

@@ -25,22 +25,3 @@ returns-in-Caps c = tours_told _ _ _ _ _ _ c.enum_told-in-Caps-1.given.1 refl c.
 
 pub returns-in-Done : goal.returns-in-Done
 returns-in-Done c = record { tour = done_next c.args.pen.step c.args.y _ _ _ _ c.enum_told-in-Done-1.given.1; made = lays_as (done_emits _ _ c.args.first _ _ _ c.enum_told-in-Done-1.given.1) lays_none }
-
-pub step_spec : {M : Type 1} → statement M
-step_spec =
-    tie.close
-    (tie.spec
-    enum_told
-    side-step-requires
-    enum-told-2
-    corner-step-requires
-    enum-told-3
-    cap-step-requires
-    enum-told-4
-    same_length
-    returns
-    same-length-2
-    returns-2
-    same-length-3
-    returns-3
-    returns-4)

@@ -10,6 +10,3 @@ returns-in-Held c = ap (λ e. held_of e c.args.s) (sym c.span-1.given.1)
 pub returns-in-Nothing : goal.returns-in-Nothing
 unfolding held_of
 returns-in-Nothing c = ap (λ e. held_of e c.args.s) (sym c.enum_told-1.given.1)
-
-pub held_spec : {M : Type 1} → statement M
-held_spec = tie.close (tie.spec enum-known-span enum_told returns returns-2)

@@ -11,8 +11,3 @@ overflow_add-result c = omega (arith, bends_count c.turned_on-n.ensures c.if-n-g
 
 pub returns-then-n-gt0 : goal.returns-then-n-gt0
 returns-then-n-gt0 c = omega (arith, bends_count c.turned_on-n.ensures c.if-n-gt0.true)
-
-pub counted_spec : {M : Type 1} → statement M
-counted_spec =
-    tie.close
-    (tie.spec turned-on-requires mul-result add-result returns counted-each-requires returns-2)

@@ -18,18 +18,3 @@ dot-requires c = (unit_short c.requires.0, unit_short c.requires.1)
 
 pub returns : goal.returns
 returns c = clear_back _ _ _ c.requires.1 (told c.dot.type_inv c.dot.ensures) c.behind-2.ensures
-
-pub clear_spec : {M : Type 1} → statement M
-clear_spec =
-    tie.close
-    (tie.spec
-    mul-least
-    add-least
-    cross-requires
-    ahead-requires
-    returns
-    behind-requires
-    returns-2
-    dot-requires
-    behind-requires-2
-    returns-3)

@@ -45,4 +45,4 @@ returns c =
     let q = a / 2 ^ 32 * (b % 2 ^ 32) in
     let r = a % 2 ^ 32 * (b / 2 ^ 32) in
     let w = a % 2 ^ 32 * (b % 2 ^ 32) in
-    ap (λ (n : ℕ). Hi p q r w * 2 ^ 64 + n) (c.wrapping_add_u64.ensures ∙ again p q r w) ∙ whole a b
+    ap (λ (n : ℕ). Hi p q r w * 2 ^ 64 + n) (c.wrapping_add_u64.ensures.value ∙ again p q r w) ∙ whole a b

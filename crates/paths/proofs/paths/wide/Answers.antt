@@ -15,6 +15,3 @@ overflow_cast-result c = rw (to_z-of_z {w = w32} c.ranges.x) (fits c)
 
 pub returns : goal.returns
 returns c = rw (to_z-of_z {w = w32} c.ranges.x) (back (fits c))
-
-pub wide_spec : {M : Type 1} → statement M
-wide_spec = tie.close (tie.spec cast-result returns)

@@ -60,6 +60,3 @@ eight c =
 pub returns-in_default : goal.returns-in_default
 unfolding corrected_of root_in root_of square_of part_of component_of direction_of step_of
 returns-in_default c = ap step_of (eight c)
-
-pub step_spec : {M : Type 1} → statement M
-step_spec = tie.close (tie.spec returns returns-2 returns-3 returns-4 returns-5 returns-6 returns-7 returns-8)

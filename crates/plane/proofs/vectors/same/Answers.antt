@@ -8,6 +8,3 @@ returns-then-p-q c = same_first _ _ (search rules) (search rules) (search rules)
 
 pub returns-else-p-q : goal.returns-else-p-q
 returns-else-p-q c = same_not _ _ (search rules) (search rules) c.if-p-q.false
-
-pub same_spec : {M : Type 1} → statement M
-same_spec = tie.close (tie.spec returns returns-2)

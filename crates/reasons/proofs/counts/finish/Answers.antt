@@ -9,6 +9,3 @@ finish-ended-requires c =record { unit_long = c.requires; room = few_room (finis
 
 pub returns : goal.returns
 returns c = laid_count c.finish-ended.ensures.made
-
-pub finish_spec : {M : Type 1} → statement M
-finish_spec = tie.close (tie.spec slice-aggregate-finish finish-requires returns)

@@ -9,6 +9,3 @@ start_cap-requires c =record { unit_long = c.requires; room = few_room (start_mo
 
 pub returns : goal.returns
 returns c = laid_count c.start_cap.ensures
-
-pub start_spec : {M : Type 1} → statement M
-start_spec = tie.close (tie.spec slice-aggregate-start-cap start-cap-requires returns)

@@ -9,6 +9,3 @@ step-stepped-requires c =record { unit_long = c.requires; room = few_room (emitt
 
 pub returns : goal.returns
 returns c = record { walk = c.step-stepped.ensures.walk; count = run_count c.step-stepped.ensures.made }
-
-pub step_spec : {M : Type 1} → statement M
-step_spec = tie.close (tie.spec slice-aggregate-step step-requires returns)

@@ -5,6 +5,3 @@ use Rattle.turning.proofs.edges.put.Goals as goal
 
 pub returns-else-i-out : goal.returns-else-i-out
 returns-else-i-out c = sym (set_out _ _ _ c.if-i-out.false)
-
-pub put_spec : {M : Type 1} → statement M
-put_spec = tie.close (tie.spec mul-w slice-set-from-w same_length returns returns-2)

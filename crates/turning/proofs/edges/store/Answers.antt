@@ -31,22 +31,3 @@ returns c =
     let b = d.before.before.before.before.before in
     edge_stored _ b.requires.reach b.narrow.ensures d.narrow-2.ensures e.narrow-3.ensures f.narrow-4.ensures
     b.place.ensures d.place-2.ensures e.place-3.ensures f.place-4.ensures
-
-pub store_spec : {M : Type 1} → statement M
-store_spec =
-    tie.close
-    (tie.spec
-    narrow-requires
-    place-requires
-    add-place
-    narrow-requires-2
-    place-requires-2
-    add-place-2
-    narrow-requires-3
-    place-requires-3
-    add-place-3
-    narrow-requires-4
-    place-requires-4
-    add-result
-    same_length
-    returns)

@@ -16,16 +16,3 @@ returns-in-Round c = record { chain = refl; made = lays_as (finish_by _ _ _ c.en
 
 pub returns-in-Butt : goal.returns-in-Butt
 returns-in-Butt c = record { chain = refl; made = lays_as (finish_by _ _ _ c.enum_told-in-Butt-1.given.1) c.end-n-in-Butt.ensures }
-
-pub finish_spec : {M : Type 1} → statement M
-finish_spec =
-    tie.close
-    (tie.spec
-    enum_told
-    end-requires
-    enum-told-2
-    end-requires-2
-    same_length
-    returns
-    same-length-2
-    returns-2)

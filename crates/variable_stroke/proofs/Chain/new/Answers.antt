@@ -6,6 +6,3 @@ use Rattle.variable_stroke.proofs.Chain.new.Goals as goal
 pub returns : goal.returns
 unfolding fresh_of
 returns c = refl
-
-pub new_spec : {M : Type 1} → statement M
-new_spec = tie.close (tie.spec returns)

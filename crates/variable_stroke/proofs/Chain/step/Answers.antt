@@ -4,6 +4,3 @@ use Rattle.variable_stroke.proofs.Chain.step.Goals as goal
 
 pub returns : goal.returns
 returns c = record { chain = marked_is _ _; made = c.drawn-n.ensures }
-
-pub step_spec : {M : Type 1} → statement M
-step_spec = tie.close (tie.spec drawn-requires same_length returns)

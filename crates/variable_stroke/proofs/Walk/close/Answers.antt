@@ -8,6 +8,3 @@ finish-ended-requires c =record { unit_long = (c.requires.unit_long.0, c.require
 
 pub returns : goal.returns
 returns c = lays_plain refl c.finish-ended.ensures.made
-
-pub close_spec : {M : Type 1} → statement M
-close_spec = tie.close (tie.spec finish-requires same_length returns)

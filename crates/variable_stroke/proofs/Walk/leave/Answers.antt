@@ -11,8 +11,3 @@ returns-then-covered c = leave_yes _ _ _ c.covered.ensures c.if-covered.true c.f
 
 pub returns : goal.returns
 returns c = leave_no _ _ _ c.covered.ensures c.if-covered.false
-
-pub leave_spec : {M : Type 1} → statement M
-leave_spec =
-    tie.close
-    (tie.spec covered-requires finish-requires start-requires same_length returns returns-2)

@@ -5,6 +5,3 @@ use Rattle.variable_stroke.proofs.Walk.new.Goals as goal
 pub returns : goal.returns
 unfolding start_of
 returns c = rw c.new.ensures
-
-pub new_spec : {M : Type 1} → statement M
-new_spec = tie.close (tie.spec new-requires returns)

@@ -5,6 +5,3 @@ use Rattle.variable_stroke.proofs.Walk.step.Goals as goal
 
 pub returns : goal.returns
 returns c = record { walk = c.stride.ensures.walk; made = lays_plain refl c.stride.ensures.made }
-
-pub step_spec : {M : Type 1} → statement M
-step_spec = tie.close (tie.spec stride-requires same_length returns)

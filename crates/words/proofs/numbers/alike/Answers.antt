@@ -46,22 +46,3 @@ loop-same-preserved c = (
 
 pub returns : goal.returns
 returns c = record { most = c.loop-same.invariant.0; rest = c.loop-same.invariant.1.on }
-
-pub alike_spec : {M : Type 1} → statement M
-alike_spec =
-    tie.close
-    (tie.spec
-    invariant-loop
-    decreases-loop
-    loop-holds
-    mul-z
-    shared-slice-copy-out-z
-    mul-word-from
-    add-word-from
-    word-from-requires
-    bits-requires
-    returns
-    add_same
-    loop-less
-    loop-again
-    returns-2)
