@@ -13,7 +13,7 @@ pub all_compared-requires : goal.all_compared-requires
 all_compared-requires c = tt
 
 pub compare_piece-c-requires : goal.compare_piece-c-requires
-compare_piece-c-requires c =record { lent = (c.requires.lent.0, c.requires.lent.1, omega (arith, c.requires.lent.2, c.loop-y.invariant.0), c.loop-y.invariant.1.touring); phase_value = ((sym c.all_compared.ensures ∙ c.loop-y-test.true), c.loop-y.invariant.1.room) }
+compare_piece-c-requires c = record { lent = (c.requires.lent.0, c.requires.lent.1, omega (arith, c.requires.lent.2, c.loop-y.invariant.0), c.loop-y.invariant.1.touring); phase_value = ((sym c.all_compared.ensures ∙ c.loop-y-test.true), c.loop-y.invariant.1.room) }
 
 pub loop-y-smaller : goal.loop-y-smaller
 loop-y-smaller c = c.compare_piece-c.ensures.fewer

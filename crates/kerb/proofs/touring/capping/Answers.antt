@@ -10,7 +10,7 @@ pub returns-then-y : goal.returns-then-y
 returns-then-y c = lays_as (caps_closed c.args.pen.step _ c.span-1.given.1 c.if-y.true) lays_none
 
 pub caps-requires : goal.caps-requires
-caps-requires c =record { clear = capped_held c.span-1.given.1 c.requires.capped; room = room_as (caps_open c.args.pen.step _ c.span-1.given.1 c.if-y.false) c.requires.room }
+caps-requires c = record { clear = capped_held c.span-1.given.1 c.requires.capped; room = room_as (caps_open c.args.pen.step _ c.span-1.given.1 c.if-y.false) c.requires.room }
 
 pub returns-else-y : goal.returns-else-y
 unfolding caps_both

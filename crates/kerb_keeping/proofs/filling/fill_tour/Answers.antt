@@ -13,7 +13,7 @@ pub all_filled-requires : goal.all_filled-requires
 all_filled-requires c = tt
 
 pub fill_piece-f-requires : goal.fill_piece-f-requires
-fill_piece-f-requires c =record { lent = (c.requires.lent.0, c.requires.lent.1, omega (arith, c.requires.lent.2, c.loop-y.invariant.0), c.loop-y.invariant.2.touring); phase_value = ((sym c.all_filled.ensures ∙ c.loop-y-test.true), c.loop-y.invariant.2.room) }
+fill_piece-f-requires c = record { lent = (c.requires.lent.0, c.requires.lent.1, omega (arith, c.requires.lent.2, c.loop-y.invariant.0), c.loop-y.invariant.2.touring); phase_value = ((sym c.all_filled.ensures ∙ c.loop-y-test.true), c.loop-y.invariant.2.room) }
 
 pub loop-y-smaller : goal.loop-y-smaller
 loop-y-smaller c = c.fill_piece-f.ensures.fewer

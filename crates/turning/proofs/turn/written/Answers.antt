@@ -74,7 +74,7 @@ pub stops-requires : goal.stops-requires
 stops-requires c = ((loop c).loop-left.invariant.1, next c, (start c).requires.turns.toward, (loop c).loop-left.invariant.3)
 
 pub edge-requires : goal.edge-requires
-edge-requires c =record { near = (c.loop-left.invariant.2, c.requires.turns.to); room = onward_room (last c.before) c.requires.room }
+edge-requires c = record { near = (c.loop-left.invariant.2, c.requires.turns.to); room = onward_room (last c.before) c.requires.room }
 
 pub returns-then-stops : goal.returns-then-stops
 returns-then-stops c = onward_done (last c.before.before.before) c.edge.ensures
@@ -86,7 +86,7 @@ pub point_at-q-requires : goal.point_at-q-requires
 point_at-q-requires c = (c.requires.turns.centre, radius_told_lem c.requires.turns.radius, next c.before.before.before)
 
 pub edge-n-requires : goal.edge-n-requires
-edge-n-requires c =record { near = (c.loop-left.invariant.2, reached c.before); room = room_first _ _ (onward_room (on c.before) c.requires.room) }
+edge-n-requires c = record { near = (c.loop-left.invariant.2, reached c.before); room = room_first _ _ (onward_room (on c.before) c.requires.room) }
 
 pub cross-z-requires-in-loop-left : goal.cross-z-requires-in-loop-left
 cross-z-requires-in-loop-left c =
@@ -110,7 +110,7 @@ loop-left-preserved c =
     (onward_step (on p) c.edge-n.ensures, next p.before.before.before.before, reached p, told c.cross-z-in-loop-left.type_inv c.cross-z-in-loop-left.ensures, c.swung-s-in-loop-left.ensures)
 
 pub edge-requires-2 : goal.edge-requires-2
-edge-requires-2 c =record { near = (c.loop-left.invariant.2, c.requires.turns.to); room = onward_room (onward_as (turns_end _ _ _ _ c.loop-left-test.false) c.loop-left.invariant.0) c.requires.room }
+edge-requires-2 c = record { near = (c.loop-left.invariant.2, c.requires.turns.to); room = onward_room (onward_as (turns_end _ _ _ _ c.loop-left-test.false) c.loop-left.invariant.0) c.requires.room }
 
 pub returns : goal.returns
 returns c = onward_done (onward_as (turns_end _ _ _ _ c.loop-left-test.false) c.loop-left.invariant.0) c.edge-2.ensures
