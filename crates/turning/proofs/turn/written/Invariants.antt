@@ -2,8 +2,6 @@
 -- direction. The measure is the rotations left.
 -- Assumes nothing.
 use mathlib.Core.Path.{◌≡◌}
-use mir.Syntax.{w64}
-use mir.Val.{to_z}
 use Rattle.runs.specs.Runs.{put}
 use Rattle.runs.proofs.Onward.{Onward}
 use Rattle.plane.specs.Vectors.{Near, cross_of}
