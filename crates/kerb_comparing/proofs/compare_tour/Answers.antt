@@ -1,6 +1,5 @@
 -- `kerb_comparing::compare_tour` meets its contract: what is left of the tour is compared on, piece by piece. Assumes nothing.
 use mathlib.Core.Path.{refl, sym, ◌∙◌}
-use borrow.Author.Tests.{not-true, not-false}
 use native.Mathlib.Omega.{arith}
 use Rattle.kerb_paths.specs.Points.{kerb_path}
 use Rattle.kerb_comparing.proofs.KerbComparisons.{kerb_begins, kerb_on, kerb_ends}

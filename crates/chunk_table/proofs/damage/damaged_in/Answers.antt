@@ -1,6 +1,5 @@
 -- `chunk_table::damage::damaged_in` meets its contract: each return is a case of `damaged_in`. Assumes nothing.
 use native.Mathlib.Omega.{arith}
-use borrow.Author.Tests.{not-true, not-false}
 use Rattle.chunk_table.proofs.Checked.{order_entries, checked_not, checked_so, twice_held, twice_none}
 use Rattle.chunk_table.proofs.Ordering.{held_entries}
 use Rattle.chunk_table.proofs.SoundTables.{damaged_long, damaged_short, damaged_many, damaged_past}

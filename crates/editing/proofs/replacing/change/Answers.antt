@@ -1,6 +1,5 @@
 -- `editing::replacing::change` meets its contract: the rows of the new vertex, then its place among the numbers, and writing where the old outline ends. Assumes nothing.
 use mathlib.Core.Path.{sym, ◌∙◌}
-use borrow.Author.Tests.{not-true, not-false}
 use native.Mathlib.Nat.{sub-zero}
 use native.Mathlib.Omega.{arith}
 use Rattle.paths.specs.Paths.{path_of}

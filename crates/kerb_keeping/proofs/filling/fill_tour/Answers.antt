@@ -1,6 +1,5 @@
 -- `kerb_keeping::filling::fill_tour` meets its contract: what is left of the tour is filled in, piece by piece. Assumes nothing.
 use mathlib.Core.Path.{refl, sym, ◌∙◌}
-use borrow.Author.Tests.{not-true, not-false}
 use native.Mathlib.Omega.{arith}
 use Rattle.kerb_paths.specs.Points.{kerb_path}
 use Rattle.kerb_keeping.proofs.KerbFilled.{fill_begins, fill_on, fill_ends}

@@ -1,6 +1,5 @@
 -- `kerb_paths::pieces::walk` meets its contract: what is left of the tour is drawn on, piece by piece. Assumes nothing.
 use mathlib.Core.Path.{refl, sym, ap, ◌∙◌}
-use borrow.Author.Tests.{not-true, not-false}
 use Rattle.runs.proofs.Laws.{runs_none, runs_as, room_as}
 use Rattle.runs.proofs.Onward.{onward_start, onward_as, onward_done, onward_room}
 use Rattle.runs.proofs.Written.{written-length}

@@ -16,7 +16,7 @@ cross-requires c = (unit_short c.requires.unit_long.0, unit_short c.requires.tur
 pub stops-requires : goal.stops-requires
 stops-requires c =
     let s = c.before.before.before in
-    (s.requires.unit_long.0, next_unit s.requires.turns.step s.requires.unit_long.0 c.rotated-next.ensures, s.requires.turns.toward, told c.cross.type_inv c.cross.ensures)
+    (c.requires.unit_long.0, next_unit c.requires.turns.step c.requires.unit_long.0 c.rotated-next.ensures, c.requires.turns.toward, told c.cross.type_inv c.cross.ensures)
 
 pub edge-requires : goal.edge-requires
 edge-requires c = record { near = (c.requires.unit_long.1, c.requires.turns.to); room = room_as (turns_stop _ _ _ _ (omega arith) c.rotated-next.ensures c.stops.ensures c.if-stops.true) c.requires.room }
