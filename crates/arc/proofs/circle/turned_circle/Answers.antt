@@ -47,8 +47,7 @@ returns-then-radius-le1 c = lays_as (circle_none _ _ (radius_back c.requires.uni
 
 pub swept-n-requires : goal.swept-n-requires
 swept-n-requires c =
-    let h = c.requires.unit_long in
-    let b = c.before in record { unit_long = (h.0, h.1, radius_told_lem h.2, east (goal.at.swept-n-requires c).After-west-w, west (goal.at.swept-n-requires c).After-west-w); unit_long_2 = (eastward_unit, westward_unit, eastward (goal.at.swept-n-requires c).After-west-w, westward (goal.at.swept-n-requires c).After-west-w); room = room_first _ _ (room_as (halves (goal.at.swept-n-requires c).After-west-w) c.requires.room) }
+    let h = c.requires.unit_long in record { unit_long = (h.0, h.1, radius_told_lem h.2, east (goal.at.swept-n-requires c).After-west-w, west (goal.at.swept-n-requires c).After-west-w); unit_long_2 = (eastward_unit, westward_unit, eastward (goal.at.swept-n-requires c).After-west-w, westward (goal.at.swept-n-requires c).After-west-w); room = room_first _ _ (room_as (halves (goal.at.swept-n-requires c).After-west-w) c.requires.room) }
 
 twice : (c : Then-out-at) →
     let a = (start c.before.before.before.before.before.before).args in
@@ -69,7 +68,6 @@ overflow_add-result c = omega (arith, (twice c).pos, (start (goal.at.overflow_ad
 
 pub swept-requires : goal.swept-requires
 swept-requires c =
-    let b = c.before.before.before.before.before.before in
     let h = c.requires.unit_long in record { unit_long = (h.0, h.1, radius_told_lem h.2, west (goal.at.swept-requires c).After-west-w, east (goal.at.swept-requires c).After-west-w); unit_long_2 = (westward_unit, eastward_unit, westward (goal.at.swept-requires c).After-west-w, eastward (goal.at.swept-requires c).After-west-w); room = room_past _ c.swept-n.ensures (room_as (halves (goal.at.swept-requires c).After-west-w) c.requires.room) }
 
 pub returns : goal.returns

@@ -11,7 +11,6 @@ offsets : (c : After-tangent_offsets-offsets) →
     let o = c.tangent_offsets-offsets.result in
     Offset s.a s.b o.left o.right o.divisor
 offsets c =
-    let s = c.before.before.before in
     let e = c.tangent_offsets-offsets.ensures in
     offsets_are c.requires.0 c.requires.1 c.line.ensures c.delta.ensures e.0 e.1.0 e.1.1
 
