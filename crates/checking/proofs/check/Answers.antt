@@ -9,4 +9,4 @@ pub returns-in-Refused : goal.returns-in-Refused
 returns-in-Refused c = all_refused _ c.in-Refused.is c.head_rows-c.ensures
 
 pub returns-in-Holds : goal.returns-in-Holds
-returns-in-Holds c = all_rest c.in-Holds.is c.head_rows-c.ensures c.check_rest.ensures.1 c.check_rest.ensures.0
+returns-in-Holds c = all_rest c.in-Holds.is c.head_rows-c.ensures c.check_rest.ensures.path c.check_rest.ensures.says
