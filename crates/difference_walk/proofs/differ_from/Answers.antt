@@ -39,7 +39,7 @@ pub old_count-last-requires : goal.old_count-last-requires
 old_count-last-requires c = (c.requires.n_value.3, omega arith)
 
 pub told_end-e-requires : goal.told_end-e-requires
-told_end-e-requires c =record { unit_long = (c.requires.unit_long.0, c.loop-k.invariant.2.around, omega (arith, c.requires.unit_long.2, c.loop-k.invariant.1)); at_bound = differed_room c.loop-k.invariant.2 (omega (arith, c.loop-k.invariant.0, c.requires.n_value.3.few)) c.requires.at_value.3 }
+told_end-e-requires c = record { unit_long = (c.requires.unit_long.0, c.loop-k.invariant.2.around, omega (arith, c.requires.unit_long.2, c.loop-k.invariant.1)); at_bound = differed_room c.loop-k.invariant.2 (omega (arith, c.loop-k.invariant.0, c.requires.n_value.3.few)) c.requires.at_value.3 }
 
 pub offset_bounds-differing-n : goal.offset_bounds-differing-n
 offset_bounds-differing-n c = omega (arith, c.requires.n_value.3.few)

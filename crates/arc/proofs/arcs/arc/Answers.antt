@@ -19,7 +19,7 @@ use Rattle.turning.proofs.Cases.{arc_empty, arc_full, arc_swept, swept_turns, tu
 use Rattle.turning.proofs.Reach.{turns_reach}
 use Rattle.folds.proofs.Laid.{lays_none, lays_runs, lays_as, lays_edge}
 use Rattle.folds.proofs.Eleven.{lays_may}
-use Rattle.arc.proofs.arcs.arc.Goals.{After-full, After-rounded-radius, Else-empty, Else-full, Then-full, Then-stops}
+use Rattle.arc.proofs.arcs.arc.Goals.{After-measured-k, After-rounded-radius, Else-empty, Else-full, Then-full, Then-stops}
 use Rattle.arc.proofs.arcs.arc.Goals as goal
 
 -- both rays have directions
@@ -87,10 +87,10 @@ pub measured-l-requires : goal.measured-l-requires
 measured-l-requires c = (short_told c.requires.unit_long.3 c.from_to-n.ensures, some_told c.from_to-n.ensures (some (goal.at.measured-l-requires c).Else-empty).1)
 
 pub direction-d-requires : goal.direction-d-requires
-direction-d-requires c = let h = measured-k-requires c.before.before in (h.0, h.1, c.measured-k.ensures)
+direction-d-requires c = let h = measured-k-requires (goal.at.direction-d-requires c).Else-empty in (h.0, h.1, c.measured-k.ensures)
 
 pub direction-e-requires : goal.direction-e-requires
-direction-e-requires c = let h = measured-l-requires c.before.before in (h.0, h.1, c.measured-l.ensures)
+direction-e-requires c = let h = measured-l-requires (goal.at.direction-e-requires c).After-measured-k in (h.0, h.1, c.measured-l.ensures)
 
 pub full-requires : goal.full-requires
 full-requires c =
@@ -117,7 +117,6 @@ stops-requires c =
 
 pub edge-requires : goal.edge-requires
 edge-requires c =
-    let s = second (goal.at.edge-requires c).After-full in
     let h = c.requires.unit_long in record { near = (about_near h.2 h.1, about_near h.3 h.1); room = room_as (stopped_arc (goal.at.edge-requires c).Then-stops) c.requires.room }
 
 pub returns-then-stops : goal.returns-then-stops
@@ -126,7 +125,7 @@ returns-then-stops c =
     lays_as (stopped_arc (goal.at.returns-then-stops c).Then-stops) (lays_edge (about_near h.2 h.1) (about_near h.3 h.1) c.edge.ensures)
 
 pub fold-requires : goal.fold-requires
-fold-requires c =record { turns = kept (goal.at.fold-requires c).After-rounded-radius; room = room_as (turned_arc (goal.at.fold-requires c).Else-full (radius (goal.at.fold-requires c).After-rounded-radius)) c.requires.room }
+fold-requires c = record { turns = kept (goal.at.fold-requires c).After-rounded-radius; room = room_as (turned_arc (goal.at.fold-requires c).Else-full (radius (goal.at.fold-requires c).After-rounded-radius)) c.requires.room }
 
 pub returns-then-pen : goal.returns-then-pen
 returns-then-pen c =
