@@ -1,6 +1,6 @@
 -- A pass over lent numbers, whatever its two rules: one law for each row that replies, what an accepted pass says, and that two passes undo each
 -- other where their rules do. Assumes nothing.
-use Rattle.std.proofs.Common.{◌≡◌, ℕ, ◌+◌, ◌/◌, ◌%◌, ◌<◌, ◌≤◌, Bool, true, false, not, eqb, ltb, List, [], ◌∷◌, ◌++◌, length, drop, refl, ap, ◌∙◌, zero-add, arith, ltb-false, le-ltb, lt-ltb, eq-eqb, ne_eqb, eqb-true}
+use Rattle.std.proofs.Common.{◌≡◌, ℕ, ◌/◌, ◌%◌, ◌<◌, ◌≤◌, Bool, true, false, not, eqb, ltb, List, [], ◌∷◌, ◌++◌, length, drop, refl, ap, ◌∙◌, zero-add, arith, ltb-false, le-ltb, lt-ltb, eq-eqb, ne_eqb, eqb-true}
 use mathlib.Core.Option.{Option}
 use Rattle.runs.proofs.Written.{over_whole}
 use Rattle.replies.specs.Replies.{Reply, first_row, triples_row, count_row, room_row, written}

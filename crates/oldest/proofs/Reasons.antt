@@ -1,11 +1,9 @@
 -- The importer's answers: one law for each reason that comes first, and what a taken number says of the float. Assumes nothing.
-use Rattle.std.proofs.Common.{◌≡◌, ℕ, zero, suc, ◌*◌, ◌/◌, ◌%◌, ◌^◌, ◌<◌, ◌≤◌, Bool, true, false, not, eqb, ltb, ◌⊎◌, List, [], ◌∷◌, ◌++◌, ℤ, pos, negsuc, neg_ℤ, nat_abs, sym, refl, ap, ◌∙◌, inl, inr, ⊎_elim, true≢false, lt_of_le_of_lt, div-le_self, arith, lit<, w32, SFits, of_z, ltb-false, ltb-true, le-ltb, lt-ltb, eq-eqb, ne_eqb, eqb-true}
+use Rattle.std.proofs.Common.{◌≡◌, ℕ, zero, suc, ◌*◌, ◌/◌, ◌%◌, ◌^◌, ◌<◌, ◌≤◌, Bool, true, false, not, eqb, ltb, ◌⊎◌, [], ◌∷◌, ℤ, pos, negsuc, neg_ℤ, nat_abs, sym, refl, ap, ◌∙◌, inl, inr, true≢false, lt_of_le_of_lt, div-le_self, arith, lit<, w32, SFits, of_z, ltb-false, ltb-true, le-ltb, lt-ltb, eq-eqb, ne_eqb, eqb-true}
 use mathlib.Core.Bool.{false≢true}
 use mathlib.Core.Option.{none, some}
 use lib.Signed.{mag, lt_z, quot_z, rem_z}
 use lib.Ieee.{Float, nan, inf, fin, up, down, is_nan}
-use types.Run.{OneOf}
-use denote.Enum.Declared.{tag_of}
 use Rattle.replies.specs.Replies.{first_row}
 use Rattle.replies.proofs.Rows.{rows_append}
 use Rattle.oldest.specs.Floats.{is_infinite, has_fraction, magnitude_of, whole_of}
@@ -13,13 +11,11 @@ use Rattle.oldest.specs.Taken.{reasons, width_reasons, whole_within, coordinate_
 use Rattle.oldest.specs.Theorems.{IsWhole, IsWidth}
 use Rattle.oldest.specs.declared.Taken.{Taken}
 use Rattle.oldest.specs.declared.Taken.TheVariants.{Whole, NotANumber, Infinite, Fraction, TooLarge, NegativeWidth, OddWidth}
-use Rattle.oldest.specs.contracts.Taken.{the_type}
 
--- what is none of the other cases is no whole number
-pub not_whole : (t : Taken) → OneOf (1 ∷ 2 ∷ 3 ∷ 4 ∷ 5 ∷ 6 ∷ []) (tag_of the_type t) → whole_in t ≡ none
+-- where the case is not that of a whole number, there is none
+pub not_whole : (t : Taken) → ((n : ℤ) → t ≡ Whole n → ⊥) → whole_in t ≡ none
 unfolding whole_in
-not_whole (Whole n) k =
-    absurd (⊎_elim (λ h. omega arith) (⊎_elim (λ h. omega arith) (⊎_elim (λ h. omega arith) (⊎_elim (λ h. omega arith) (⊎_elim (λ h. omega arith) (λ h. omega arith))))) k)
+not_whole (Whole n) k = absurd (k n refl)
 not_whole (NotANumber x) k = refl
 not_whole (Infinite x) k = refl
 not_whole (Fraction x) k = refl

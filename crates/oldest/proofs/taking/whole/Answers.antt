@@ -2,7 +2,7 @@
 -- Assumes nothing.
 use Rattle.std.proofs.Common.{◌≡◌, ◌<◌, ◌≤◌, true, false, not, ℤ, sym, ap, ◌∙◌, subst, w32, w64, SFits, to_z, of_z}
 use lib.Ieee.{Float, of_bits, neg, div, eq, ne, binary32, of_int}
-use mir.ValLaws.{to_z-of_z}
+use mir.Facts.{to_z-of_z}
 use Rattle.oldest.specs.Floats.{has_fraction, magnitude_of, whole_of}
 use Rattle.oldest.specs.Taken.{whole_within}
 use Rattle.oldest.specs.declared.Taken.TheVariants.{Whole, TooLarge}
@@ -25,15 +25,15 @@ unfolding of_bits neg div whole_within
 returns-then-x-3 c = let i = infinite_is true c.args.x c.if-x-3.true in first_infinite _ c.args.x _ i.0 i.1
 
 -- past the first three tests x is a number
-module _ (c : tie.Else3) where
-  number : Finite c.before.before.before.args.x
+module _ (c : Else-x-3) where
+  number : Finite c.args.x
   unfolding of_bits neg div
-  number = finite c.before.before.before.args.x c.before.before.if1.false c.before.if2.false c.if3.false
+  number = finite c.args.x c.if-x.false c.if-x-2.false c.if-x-3.false
 
-  beyond : (has_fraction c.before.before.before.args.x ≡ false) × (536870912 < magnitude_of c.before.before.before.args.x)
-      → TooLarge c.before.before.before.args.x ≡ whole_within 536870912 c.before.before.before.args.x
+  beyond : (has_fraction c.args.x ≡ false) × (536870912 < magnitude_of c.args.x)
+      → TooLarge c.args.x ≡ whole_within 536870912 c.args.x
   unfolding whole_within
-  beyond h = first_large 536870912 c.before.before.before.args.x _ (no_nan _ number) (no_infinite _ number) h.0 h.1
+  beyond h = first_large 536870912 c.args.x _ (no_nan _ number) (no_infinite _ number) h.0 h.1
 
 pub returns-then-x-4 : goal.returns-then-x-4
 unfolding of_bits neg div
@@ -44,53 +44,50 @@ unfolding of_bits neg div
 returns-then-x-5 c = beyond (goal.at.returns-then-x-5 c).Else-x-3 (under _ (number (goal.at.returns-then-x-5 c).Else-x-3) c.well_formed.0.1 c.if-x-5.true)
 
 -- past the next two it is no larger than a width
-module _ (c : tie.Else5) where
-  abbrev x : Float
-  x = c.before.before.before.before.before.args.x
-
-  finite_x : Finite x
+module _ (c : Else-x-5) where
+  finite_x : Finite c.args.x
   finite_x = number c.before.before
 
-  fits_x : Fits32 x
-  fits_x = c.before.before.before.before.before.well-formed.0.1
+  fits_x : Fits32 c.args.x
+  fits_x = c.well_formed.0.1
 
-  small : magnitude_of x ≤ 536870912
+  small : magnitude_of c.args.x ≤ 536870912
   unfolding of_bits neg div
-  small = within x c.before.if4.false c.if5.false
+  small = within c.args.x c.if-x-4.false c.if-x-5.false
 
 pub truncating_f32_to_i64-n-requires : goal.truncating_f32_to_i64-n-requires
 unfolding of_bits neg div
-truncating_f32_to_i64-n-requires c = asks (x c) (finite_x c) c.if-x-4.false c.if-x-5.false
+truncating_f32_to_i64-n-requires c = let h = asks c.args.x (finite_x c) c.if-x-4.false c.if-x-5.false in record { lower_bound = h.0; upper_bound = h.1 }
 
 -- the number that the truncation gives
-module _ (c : tie.After-truncating-f32-to-i64) where
-  wide : to_z w64 (of_z w64 c.truncating-f32-to-i64.result) ≡ whole_of (x c.before)
-  wide = to_z-of_z w64 c.truncating-f32-to-i64.result record { sfits = c.truncating-f32-to-i64.type-inv } ∙ c.truncating-f32-to-i64.ensures ∙ truncated (x c.before) (finite_x c.before) (small c.before)
+module _ (c : After-truncating_f32_to_i64-n) where
+  wide : to_z w64 (of_z w64 c.truncating_f32_to_i64-n.result) ≡ whole_of c.args.x
+  wide = to_z-of_z {w = w64} record { sfits = c.truncating_f32_to_i64-n.type_inv } ∙ c.truncating_f32_to_i64-n.ensures ∙ truncated c.args.x (finite_x c.before) (small c.before)
 
-  fits_32 : SFits w32 (whole_of (x c.before))
-  fits_32 = in_i32 (x c.before) (small c.before)
+  fits_32 : SFits w32 (whole_of c.args.x)
+  fits_32 = in_i32 c.args.x (small c.before)
 
-  cut : to_z w32 (of_z w32 (to_z w64 (of_z w64 c.truncating-f32-to-i64.result))) ≡ whole_of (x c.before)
-  cut = ap (λ (z : ℤ). to_z w32 (of_z w32 z)) wide ∙ to_z-of_z w32 (whole_of (x c.before)) fits_32
+  cut : to_z w32 (of_z w32 (to_z w64 (of_z w64 c.truncating_f32_to_i64-n.result))) ≡ whole_of c.args.x
+  cut = ap (λ (z : ℤ). to_z w32 (of_z w32 z)) wide ∙ to_z-of_z {w = w32} fits_32
 
 pub overflow_cast-n : goal.overflow_cast-n
 overflow_cast-n c = subst (SFits w32) (sym (wide c)) (fits_32 c)
 
 -- whether it comes back tells whether there is a fraction
-module _ (c : tie.After-nearest-i32-to-f32) where
-  fraction : ne c.nearest-i32-to-f32.result (x c.before.before) ≡ has_fraction (x c.before.before)
+module _ (c : After-nearest_i32_to_f32) where
+  fraction : ne c.nearest_i32_to_f32.result c.args.x ≡ has_fraction c.args.x
   unfolding ne
   fraction =
-      ap (λ (y : Float). not (eq y (x c.before.before))) (c.nearest-i32-to-f32.ensures ∙ ap (of_int binary32) (cut c.before))
-      ∙ comes_back (x c.before.before) (finite_x c.before.before) (fits_x c.before.before) (small c.before.before)
+      ap (λ (y : Float). not (eq y c.args.x)) (c.nearest_i32_to_f32.ensures ∙ ap (of_int binary32) (cut c.before))
+      ∙ comes_back c.args.x (finite_x c.before.before) (fits_x c.before.before) (small c.before.before)
 
 pub returns-then-nearest_i32_to_f32-x : goal.returns-then-nearest_i32_to_f32-x
 unfolding whole_within
 returns-then-nearest_i32_to_f32-x c =
-    first_fraction _ (x (goal.at.returns-then-nearest_i32_to_f32-x c).Else-x-5) _ (no_nan _ (finite_x (goal.at.returns-then-nearest_i32_to_f32-x c).Else-x-5)) (no_infinite _ (finite_x (goal.at.returns-then-nearest_i32_to_f32-x c).Else-x-5)) (sym (fraction (goal.at.returns-then-nearest_i32_to_f32-x c).After-nearest_i32_to_f32) ∙ c.if-nearest_i32_to_f32-x.true)
+    first_fraction _ c.args.x _ (no_nan _ (finite_x (goal.at.returns-then-nearest_i32_to_f32-x c).Else-x-5)) (no_infinite _ (finite_x (goal.at.returns-then-nearest_i32_to_f32-x c).Else-x-5)) (sym (fraction (goal.at.returns-then-nearest_i32_to_f32-x c).After-nearest_i32_to_f32) ∙ c.if-nearest_i32_to_f32-x.true)
 
 pub returns : goal.returns
 unfolding whole_within
 returns c =
     ap Whole (cut (goal.at.returns c).After-truncating_f32_to_i64-n)
-    ∙ no_reason _ (x (goal.at.returns c).Else-x-5) _ (record { number = no_nan _ (finite_x (goal.at.returns c).Else-x-5); finite = no_infinite _ (finite_x (goal.at.returns c).Else-x-5); whole = sym (fraction (goal.at.returns c).After-nearest_i32_to_f32) ∙ c.if-nearest_i32_to_f32-x.false; within = small (goal.at.returns c).Else-x-5 })
+    ∙ no_reason _ c.args.x _ (record { number = no_nan _ (finite_x (goal.at.returns c).Else-x-5); finite = no_infinite _ (finite_x (goal.at.returns c).Else-x-5); whole = sym (fraction (goal.at.returns c).After-nearest_i32_to_f32) ∙ c.if-nearest_i32_to_f32-x.false; within = small (goal.at.returns c).Else-x-5 })
