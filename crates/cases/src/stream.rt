@@ -1,14 +1,23 @@
 // A long input through a short buffer: filled, worked through by whole lines, the rest moved to the front, filled again.
-ghost use Rattle.std.specs.Prelude.{◌≡◌, ◌+◌, ◌≤◌, length};
+ghost use Rattle.std.specs.Prelude.{◌≡◌, ◌+◌, ◌≤◌, IfOk, length};
 
-use libc::STDIN_FILENO;
+use std::io;
+use std::io::Read;
 
 // Reads on behind the first `filled` bytes, until the buffer is full or the input ends; how many are filled then.
-pub fn fill(buffer: &mut [u8], filled: usize) -> usize
+pub fn fill<R: Read>(input: &mut R, buffer: &mut [u8], filled: usize) -> io::Result<usize>
     requires { filled ≤ length buffer.old }
-    ensures { (filled ≤ result) × (result ≤ length buffer.old) }
+    ensures { IfOk result (λ count. (filled ≤ count) × (count ≤ length buffer.old)) }
 {
-    filled + io::read_full(STDIN_FILENO, &mut buffer[filled..])
+    let mut count = filled;
+    while count < buffer.len() {
+        let more = input.read(&mut buffer[count..])?;
+        if more == 0 {
+            break;
+        }
+        count += more;
+    }
+    Ok(count)
 }
 
 // How many bytes the whole lines at the front have: up to the last line end.
@@ -43,11 +52,6 @@ pub fn to_front(buffer: &mut [u8], from: usize, to: usize) -> usize
     requires { (from ≤ to) × (to ≤ length buffer.old) }
     ensures { result + from ≡ to }
 {
-    let count = to - from;
-    let mut i = 0;
-    while i < count {
-        buffer[i] = buffer[from + i];
-        i += 1;
-    }
-    count
+    buffer.copy_within(from..to, 0);
+    to - from
 }
