@@ -1,7 +1,7 @@
 -- One law for each case of a rule, with what the code has computed as variables and equations, so that a proof cites it with the facts of `c`.
 -- Assumes nothing.
 use mathlib.Core.Path.{◌≡◌, refl}
-use mathlib.Core.Bool.{Bool, true, false, or_true, or-false}
+use mathlib.Core.Bool.{Bool, true, false, or-true, or-false}
 use mathlib.Core.List.{[], ◌++◌}
 use Prim.Native.Nat.{ℕ, zero, suc, ◌-◌, ◌≤◌, ◌<◌}
 use native.Mathlib.Numerals.{sub-one}
@@ -41,13 +41,13 @@ module _ (m n : Vector) (choice : Sweep) {z : ℤ} (e : z ≡ cross_of m n) wher
 
 pub empty_start : (w : Sweep) (c p q : Point) → same_point p c ≡ true → true ≡ empty_of w c p q
 unfolding empty_of
-empty_start Minor c p q h = rw (h, or_true)
+empty_start Minor c p q h = rw (h, or-true)
 empty_start Major c p q h = rw h
 
 pub empty_end : (w : Sweep) (c p q : Point) → same_point q c ≡ true → true ≡ empty_of w c p q
 unfolding empty_of
-empty_end Minor c p q h = rw (h, or_true)
-empty_end Major c p q h = rw (h, or_true)
+empty_end Minor c p q h = rw (h, or-true)
+empty_end Major c p q h = rw (h, or-true)
 
 pub empty_minor : (c p q : Point) {w : Sweep} → w ≡ Minor → same_point p c ≡ false → same_point q c ≡ false → same_point p q ≡ empty_of w c p q
 unfolding empty_of

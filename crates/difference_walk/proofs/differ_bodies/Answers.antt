@@ -10,7 +10,7 @@ use borrow.Author.Rules.{rules}
 use Rattle.difference_walk.proofs.differ_bodies.Goals as goal
 
 pub returns-then-n-eq0 : goal.returns-then-n-eq0
-returns-then-n-eq0 c =record { due = none-due c.args.grade (path_of c.args.path.now) (omega (arith, c.requires.0, c.if-n-eq0.true)); found = none_found c.args.grade _ (path_of c.args.path.now) _ _ c.requires.2 c.front-base.ensures c.old_count-old.ensures c.difference-first.ensures refl (omega (arith, c.requires.0, c.if-n-eq0.true)) c.if-n-eq0.true }
+returns-then-n-eq0 c = record { due = none-due c.args.grade (path_of c.args.path.now) (omega (arith, c.requires.0, c.if-n-eq0.true)); found = none_found c.args.grade _ (path_of c.args.path.now) _ _ c.requires.2 c.front-base.ensures c.old_count-old.ensures c.difference-first.ensures refl (omega (arith, c.requires.0, c.if-n-eq0.true)) c.if-n-eq0.true }
 
 pub overflow_add-at : goal.overflow_add-at
 overflow_add-at c = omega (arith, base_small c.requires.2 c.front-base.ensures, c.old_count-old.type_inv)

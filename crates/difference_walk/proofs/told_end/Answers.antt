@@ -5,7 +5,7 @@ use Rattle.difference_walk.proofs.BodyByBody.{own_edges}
 use Rattle.difference_walk.proofs.told_end.Goals as goal
 
 pub close-numbers-requires : goal.close-numbers-requires
-close-numbers-requires c =record { unit_long = (c.requires.unit_long.0, c.requires.unit_long.1); room = own_room (close_most c.args.t c.args.d.walk) }
+close-numbers-requires c = record { unit_long = (c.requires.unit_long.0, c.requires.unit_long.1); room = own_room (close_most c.args.t c.args.d.walk) }
 
 pub told-requires : goal.told-requires
 told-requires c =

@@ -6,7 +6,7 @@ use Rattle.difference_walk.proofs.BodyByBody.{own_edges, told_walk}
 use Rattle.difference_walk.proofs.told_step.Goals as goal
 
 pub step-w-requires : goal.step-w-requires
-step-w-requires c =record { unit_long = (c.requires.unit_long.0, c.requires.unit_long.1, c.requires.unit_long.2); room = own_room (emitted_most c.args.t c.args.d.walk c.args.v) }
+step-w-requires c = record { unit_long = (c.requires.unit_long.0, c.requires.unit_long.1, c.requires.unit_long.2); room = own_room (emitted_most c.args.t c.args.d.walk c.args.v) }
 
 pub told-requires : goal.told-requires
 told-requires c =

@@ -9,4 +9,4 @@ begin-begun-requires c =
     let f = c.requires.0 in record { n_value = (f.count, f.within.inside, step_unit _ c.requires.3, c.requires.1); room = walk_room _ f.within c.requires.3 }
 
 pub draw_begun-requires : goal.draw_begun-requires
-draw_begun-requires c =record { fits = (c.requires.0, c.requires.1, search rules, c.requires.3); begins = c.begin-begun.ensures }
+draw_begun-requires c = record { fits = (c.requires.0, c.requires.1, search rules, c.requires.3); begins = c.begin-begun.ensures }

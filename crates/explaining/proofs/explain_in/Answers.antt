@@ -11,4 +11,4 @@ pub returns-in-Edge : goal.returns-in-Edge
 returns-in-Edge c = explains_edge _ _ (front_whys c.args.grade c.args.n c.args.path.now (sub-zero (3 * c.args.n))) c.explain_path-told.ensures c.told-1.given.1
 
 pub returns-in-NoEdge : goal.returns-in-NoEdge
-returns-in-NoEdge c = explains_none _ _ (front_whys c.args.grade c.args.n c.args.path.now (sub-zero (3 * c.args.n))) c.explain_path-told.ensures c.enum_told-1.given.1
+returns-in-NoEdge c = explains_none _ _ (front_whys c.args.grade c.args.n c.args.path.now (sub-zero (3 * c.args.n))) c.explain_path-told.ensures c.in-NoEdge.is

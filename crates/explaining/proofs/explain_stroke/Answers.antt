@@ -3,10 +3,10 @@ use Rattle.explaining.proofs.Answers.{path_held, explains_other, explains_passed
 use Rattle.explaining.proofs.explain_stroke.Goals as goal
 
 pub explain_in-requires : goal.explain_in-requires
-explain_in-requires c = ((path_held c.requires.0 c.enum_told-in-Stroke-1.given.1).0, (path_held c.requires.0 c.enum_told-in-Stroke-1.given.1).1, (path_held c.requires.0 c.enum_told-in-Stroke-1.given.1).2, c.requires.1)
+explain_in-requires c = ((path_held c.requires.0 c.in-Stroke.is).0, (path_held c.requires.0 c.in-Stroke.is).1, (path_held c.requires.0 c.in-Stroke.is).2, c.requires.1)
 
 pub returns-in-Kerb : goal.returns-in-Kerb
-returns-in-Kerb c = explains_other c.requires.0 c.args.edge c.enum_told-1.given.1
+returns-in-Kerb c = explains_other c.requires.0 c.args.edge c.in-Kerb.is
 
 pub returns-in-Stroke : goal.returns-in-Stroke
-returns-in-Stroke c = explains_passed c.requires.0 c.enum_told-in-Stroke-1.given.1 _ c.explain_in.ensures
+returns-in-Stroke c = explains_passed c.requires.0 c.in-Stroke.is _ c.explain_in.ensures

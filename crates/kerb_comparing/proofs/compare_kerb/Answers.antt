@@ -39,7 +39,7 @@ pub first_tour-requires : goal.first_tour-requires
 first_tour-requires c = record { count = c.requires.0; some = (some _ c.if-n-eq0.false); few = omega (arith, c.requires.0, c.requires.1.count); inside = c.requires.1.inside; styled = record { radius = c.requires.2; draws = (rw (radius_back c.requires.2) at c.if-y-le1.false) } }
 
 pub compare_tour-requires : goal.compare_tour-requires
-compare_tour-requires c =record { lent = (record { count = c.requires.0; some = (some _ c.if-n-eq0.false); few = omega (arith, c.requires.0, c.requires.1.count); inside = c.requires.1.inside; styled = record { radius = c.requires.2; draws = (rw (radius_back c.requires.2) at c.if-y-le1.false) } }, step_unit _ c.step.ensures, c.requires.3, c.first_tour.ensures.touring); tour_room = tour_room c.args.grade c.args.y (kerb_path c.args.y.radius c.args.points.now) c.requires.0 _ c.same_points-ok.ensures (omega (arith, c.requires.0, (some _ c.if-n-eq0.false))) (rw (radius_back c.requires.2) at c.if-y-le1.false) c.step.ensures c.first_tour.ensures.tour c.requires.1.count }
+compare_tour-requires c = record { lent = (record { count = c.requires.0; some = (some _ c.if-n-eq0.false); few = omega (arith, c.requires.0, c.requires.1.count); inside = c.requires.1.inside; styled = record { radius = c.requires.2; draws = (rw (radius_back c.requires.2) at c.if-y-le1.false) } }, step_unit _ c.step.ensures, c.requires.3, c.first_tour.ensures.touring); tour_room = tour_room c.args.grade c.args.y (kerb_path c.args.y.radius c.args.points.now) c.requires.0 _ c.same_points-ok.ensures (omega (arith, c.requires.0, (some _ c.if-n-eq0.false))) (rw (radius_back c.requires.2) at c.if-y-le1.false) c.step.ensures c.first_tour.ensures.tour c.requires.1.count }
 
 pub returns : goal.returns
 returns c = tour_agrees c.args.grade c.args.y (kerb_path c.args.y.radius c.args.points.now) c.requires.0 _ c.same_points-ok.ensures (omega (arith, c.requires.0, (some _ c.if-n-eq0.false))) (rw (radius_back c.requires.2) at c.if-y-le1.false) c.step.ensures c.first_tour.ensures.tour c.compare_tour.ensures

@@ -9,10 +9,10 @@ use Rattle.kerb_comparing.proofs.KerbComparisons.{piece_agrees}
 use Rattle.kerb_comparing.proofs.compare_piece.Goals as goal
 
 pub piece-p-requires : goal.piece-p-requires
-piece-p-requires c =record { lent = (c.requires.lent.0, c.requires.lent.1, c.requires.lent.3); room = own_room (piece_few c.args.t c.args.y (way_of c.args.y (kerb_path c.args.y.radius c.args.points.now)) c.args.c.tour) }
+piece-p-requires c = record { lent = (c.requires.lent.0, c.requires.lent.1, c.requires.lent.3); room = own_room (piece_few c.args.t c.args.y (way_of c.args.y (kerb_path c.args.y.radius c.args.points.now)) c.args.c.tour) }
 
 pub same_numbers-bodies-requires : goal.same_numbers-bodies-requires
-same_numbers-bodies-requires c =record { n_in_bounds = own_inside (piece_few c.args.t c.args.y (way_of c.args.y (kerb_path c.args.y.radius c.args.points.now)) c.args.c.tour) (lays_plain refl c.piece-p.ensures.made) (piece_own c.args.t c.args.y (way_of c.args.y (kerb_path c.args.y.radius c.args.points.now)) c.args.c.tour c.requires.lent.2); n_bound = words_fit c.args.t c.args.y (kerb_path c.args.y.radius c.args.points.now) c.args.c.tour c.requires.phase_value.0 c.requires.phase_value.1 (lays_plain refl c.piece-p.ensures.made) }
+same_numbers-bodies-requires c = record { n_in_bounds = own_inside (piece_few c.args.t c.args.y (way_of c.args.y (kerb_path c.args.y.radius c.args.points.now)) c.args.c.tour) (lays_plain refl c.piece-p.ensures.made) (piece_own c.args.t c.args.y (way_of c.args.y (kerb_path c.args.y.radius c.args.points.now)) c.args.c.tour c.requires.lent.2); n_bound = words_fit c.args.t c.args.y (kerb_path c.args.y.radius c.args.points.now) c.args.c.tour c.requires.phase_value.0 c.requires.phase_value.1 (lays_plain refl c.piece-p.ensures.made) }
 
 pub overflow_mul-at : goal.overflow_mul-at
 overflow_mul-at c = omega (arith, own_small (piece_few c.args.t c.args.y (way_of c.args.y (kerb_path c.args.y.radius c.args.points.now)) c.args.c.tour) (lays_plain refl c.piece-p.ensures.made))

@@ -19,31 +19,28 @@ use Rattle.turning.proofs.Cases.{circle_none, circle_some}
 use Rattle.turning.proofs.Reach.{circle_reach}
 use Rattle.folds.proofs.Laid.{lays_runs, lays_none, lays_as, lays_then, lays_plain, room_past}
 use Rattle.turning.proofs.Mirrored.{halves_alike, counted_twice}
-use Rattle.arc.proofs.circle.turned_circle.Goals.{After-west-w, Start, Then-out-at}
+use Rattle.arc.proofs.circle.turned_circle.Goals.{After-west-w, Then-out-at}
 use Rattle.arc.proofs.circle.turned_circle.Goals as goal
 
-abbrev start : After-west-w → Start
-start c = c.before.before.before
-
 -- its two ends, their directions, and its two arcs
-east : (c : After-west-w) → About (start c).args.c c.east-e.result
-east c = east_told _ (radius_told_lem (start c).requires.unit_long.2) c.east-e.ensures
+east : (c : After-west-w) → About c.args.c c.east-e.result
+east c = east_told _ (radius_told_lem c.requires.unit_long.2) c.east-e.ensures
 
-west : (c : After-west-w) → About (start c).args.c c.west-w.result
-west c = west_told _ (radius_told_lem (start c).requires.unit_long.2) c.west-w.ensures
+west : (c : After-west-w) → About c.args.c c.west-w.result
+west c = west_told _ (radius_told_lem c.requires.unit_long.2) c.west-w.ensures
 
-eastward : (c : After-west-w) → record { x = pos (2 ^ 30); y = pos 0 } ≡ direction_of (from_to (start c).args.c c.east-e.result)
-eastward c = eastward_told _ (bits (start c).args.radius) c.if-radius-le1.false c.east-e.ensures
+eastward : (c : After-west-w) → record { x = pos (2 ^ 30); y = pos 0 } ≡ direction_of (from_to c.args.c c.east-e.result)
+eastward c = eastward_told _ (bits c.args.radius) c.if-radius-le1.false c.east-e.ensures
 
-westward : (c : After-west-w) → record { x = neg_ℤ (pos (2 ^ 30)); y = pos 0 } ≡ direction_of (from_to (start c).args.c c.west-w.result)
-westward c = westward_told _ (bits (start c).args.radius) c.if-radius-le1.false c.west-w.ensures
+westward : (c : After-west-w) → record { x = neg_ℤ (pos (2 ^ 30)); y = pos 0 } ≡ direction_of (from_to c.args.c c.west-w.result)
+westward c = westward_told _ (bits c.args.radius) c.if-radius-le1.false c.west-w.ensures
 
 halves : (c : After-west-w) →
-    let a = (start c).args in
+    let a = c.args in
     let e = c.east-e.result in
     let w = c.west-w.result in
     circle_of a.pen.step a.c a.radius ≡ swept_of a.pen.step a.c (bits a.radius) e w ++ swept_of a.pen.step a.c (bits a.radius) w e
-halves c = circle_some _ _ (radius_back (start c).requires.unit_long.2) c.if-radius-le1.false c.east-e.ensures c.west-w.ensures
+halves c = circle_some _ _ (radius_back c.requires.unit_long.2) c.if-radius-le1.false c.east-e.ensures c.west-w.ensures
 
 pub returns-then-radius-le1 : goal.returns-then-radius-le1
 returns-then-radius-le1 c = lays_as (circle_none _ _ (radius_back c.requires.unit_long.2) c.if-radius-le1.true) lays_none
@@ -51,33 +48,29 @@ returns-then-radius-le1 c = lays_as (circle_none _ _ (radius_back c.requires.uni
 pub swept-n-requires : goal.swept-n-requires
 swept-n-requires c =
     let h = c.requires.unit_long in
-    let b = c.before in record { unit_long = (h.0, h.1, radius_told_lem h.2, east b, west b); unit_long_2 = (eastward_unit, westward_unit, eastward b, westward b); room = room_first _ _ (room_as (halves c.before) c.requires.room) }
-
--- where nothing is folded and there is no room, the first arc counts the second
-abbrev ends : Then-out-at → After-west-w
-ends c = c.before.before.before.before.before.before
+    let b = c.before in record { unit_long = (h.0, h.1, radius_told_lem h.2, east (goal.at.swept-n-requires c).After-west-w, west (goal.at.swept-n-requires c).After-west-w); unit_long_2 = (eastward_unit, westward_unit, eastward (goal.at.swept-n-requires c).After-west-w, westward (goal.at.swept-n-requires c).After-west-w); room = room_first _ _ (room_as (halves (goal.at.swept-n-requires c).After-west-w) c.requires.room) }
 
 twice : (c : Then-out-at) →
-    let a = (start (ends c)).args in
+    let a = (start c.before.before.before.before.before.before).args in
     let s = c.swept-n in
     Runs put edge_numbers a.out.now a.at (circle_of a.pen.step a.c a.radius) s.new.0 (s.result + (s.result - a.at))
 twice c =
     let b = ends c in
-    let alike = halves_alike _ _ (bits (start b).args.radius) b.if-radius-le1.left b.east-e.ensures b.west-w.ensures in
-    runs_as (halves b) (counted_twice _ _ (leb-true _ _ c.if-out-at.true) alike (lays_plain (not-true (start b).args.pen.folds c.if-not-pen.true) c.swept-n.ensures))
+    let alike = halves_alike _ _ (bits c.args.radius) c.if-radius-le1.left c.east-e.ensures c.west-w.ensures in
+    runs_as (halves c.before.before.before.before.before.before) (counted_twice _ _ (leb-true _ _ c.if-out-at.true) alike (lays_plain (not-true c.args.pen.folds c.if-not-pen.true) c.swept-n.ensures))
 
 pub returns-then-out-at : goal.returns-then-out-at
 returns-then-out-at c =
-    let h = (start (ends c)).requires.0 in
+    let h = (start (goal.at.returns-then-out-at c).After-west-w).requires.unit_long in
     lays_runs (circle_reach _ _ _ h.0 h.1 h.2) (twice c)
 
 pub overflow_add-result : goal.overflow_add-result
-overflow_add-result c = omega (arith, (twice c).pos, (start (ends c)).requires.1.fits)
+overflow_add-result c = omega (arith, (twice c).pos, (start (goal.at.overflow_add-result c).After-west-w).requires.room.fits)
 
 pub swept-requires : goal.swept-requires
 swept-requires c =
     let b = c.before.before.before.before.before.before in
-    let h = (start b).requires.unit_long in record { unit_long = (h.0, h.1, radius_told_lem h.2, west b, east b); unit_long_2 = (westward_unit, eastward_unit, westward b, eastward b); room = room_past _ c.swept-n.ensures (room_as (halves b) (start b).requires.room) }
+    let h = c.requires.unit_long in record { unit_long = (h.0, h.1, radius_told_lem h.2, west (goal.at.swept-requires c).After-west-w, east (goal.at.swept-requires c).After-west-w); unit_long_2 = (westward_unit, eastward_unit, westward (goal.at.swept-requires c).After-west-w, eastward (goal.at.swept-requires c).After-west-w); room = room_past _ c.swept-n.ensures (room_as (halves (goal.at.swept-requires c).After-west-w) c.requires.room) }
 
 pub returns : goal.returns
-returns c = lays_as (halves c.before.before.before.before.before.before.before.before) (lays_then c.swept-n.ensures c.swept.ensures)
+returns c = lays_as (halves (goal.at.returns c).After-west-w) (lays_then c.swept-n.ensures c.swept.ensures)

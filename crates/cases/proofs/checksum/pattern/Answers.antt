@@ -17,7 +17,7 @@ entry_size c =
     rw e c.long.ensures
 
 pub overflow_sub-result : goal.overflow_sub-result
-overflow_sub-result c = omega (arith, entry_size c.before)
+overflow_sub-result c = omega (arith, entry_size (goal.at.overflow_sub-result c).After-size-n)
 
 pub returns-else-entry-lt0 : goal.returns-else-entry-lt0
-returns-else-entry-lt0 c = omega (arith, entry_size c.before)
+returns-else-entry-lt0 c = omega (arith, entry_size (goal.at.returns-else-entry-lt0 c).After-size-n)

@@ -16,7 +16,7 @@ pub compare_kerb-c-requires : goal.compare_kerb-c-requires
 compare_kerb-c-requires c = (count_is c.requires.0 c.requires.2, within_is c.requires.0 c.requires.2 c.first_outside-bad.ensures c.if-bad-n.false, kerb_radius c.requires.0 c.requires.1, kerb_enough c.requires.0 c.requires.1 c.requires.3)
 
 pub first_difference-d-requires : goal.first_difference-d-requires
-first_difference-d-requires c =record { n_value = (count_is c.requires.0 c.requires.2, omega (arith, c.requires.0.vertices, c.requires.0.headed.count), kerb_radius c.requires.0 c.requires.1); agrees = kerb_agrees c.args.h.n c.compare_kerb-c.ensures }
+first_difference-d-requires c = record { n_value = (count_is c.requires.0 c.requires.2, omega (arith, c.requires.0.vertices, c.requires.0.headed.count), kerb_radius c.requires.0 c.requires.1); agrees = kerb_agrees c.args.h.n c.compare_kerb-c.ensures }
 
 pub returns-then-d-c : goal.returns-then-d-c
 returns-then-d-c c = rest_unsound c.requires.0 c.requires.2 c.first_outside-bad.ensures c.if-bad-n.false (kerb_told c.requires.0 c.requires.1) refl (kerb_agrees c.args.h.n c.compare_kerb-c.ensures) c.first_difference-d.ensures c.if-d-c.true

@@ -19,4 +19,4 @@ pub check_shown-requires : goal.check_shown-requires
 check_shown-requires c = (c.requires.0, shown_lent c.requires.0 (path_enough c.requires.0 refl c.requires.1) c.width.ensures c.show_path.ensures, c.requires.2)
 
 pub returns : goal.returns
-returns c =record { says = c.check_shown.ensures; path = shown_front c.requires.0 (path_enough c.requires.0 refl c.requires.1) c.width.ensures c.show_path.ensures }
+returns c = record { says = c.check_shown.ensures; path = shown_front c.requires.0 (path_enough c.requires.0 refl c.requires.1) c.width.ensures c.show_path.ensures }

@@ -13,10 +13,10 @@ pub returns-then-bad-n : goal.returns-then-bad-n
 returns-then-bad-n c = rest_outside c.requires.0 c.requires.2 c.first_outside-bad.ensures c.if-bad-n.true
 
 pub compare-c-requires : goal.compare-c-requires
-compare-c-requires c =record { n_value = (count_is c.requires.0 c.requires.2, within_is c.requires.0 c.requires.2 c.first_outside-bad.ensures c.if-bad-n.false, stroke_enough c.requires.0 c.requires.3); n_in_bounds = stroke_front c.requires.0 c.args.edition c.requires.1 }
+compare-c-requires c = record { n_value = (count_is c.requires.0 c.requires.2, within_is c.requires.0 c.requires.2 c.first_outside-bad.ensures c.if-bad-n.false, stroke_enough c.requires.0 c.requires.3); n_in_bounds = stroke_front c.requires.0 c.args.edition c.requires.1 }
 
 pub first_difference-d-requires : goal.first_difference-d-requires
-first_difference-d-requires c =record { n_value = (count_is c.requires.0 c.requires.2, omega (arith, c.requires.0.vertices, c.requires.0.headed.count), tt); agrees = c.compare-c.ensures }
+first_difference-d-requires c = record { n_value = (count_is c.requires.0 c.requires.2, omega (arith, c.requires.0.vertices, c.requires.0.headed.count), tt); agrees = c.compare-c.ensures }
 
 pub returns-then-d-c : goal.returns-then-d-c
 returns-then-d-c c = rest_unsound c.requires.0 c.requires.2 c.first_outside-bad.ensures c.if-bad-n.false (stroke_told c.requires.0 c.requires.1) refl c.compare-c.ensures c.first_difference-d.ensures c.if-d-c.true

@@ -27,4 +27,4 @@ pub returns-in-At : goal.returns-in-At
 returns-in-At c = c.put_at.ensures ∙ added_at _ _ _ (gap_found c.requires.0 _ (omega (arith, c.requires.1)) c.lowest_gap.ensures c.at-1.given.1) c.requires.2
 
 pub returns-in-Nothing : goal.returns-in-Nothing
-returns-in-Nothing c = c.put_at-in-Nothing.ensures ∙ added_none _ _ _ (gap_found c.requires.0 _ (omega (arith, c.requires.1)) c.lowest_gap.ensures c.enum_told-1.given.1) c.requires.2 c.squeeze-end.ensures.0 c.squeeze-end.ensures.1
+returns-in-Nothing c = c.put_at-in-Nothing.ensures ∙ added_none _ _ _ (gap_found c.requires.0 _ (omega (arith, c.requires.1)) c.lowest_gap.ensures c.in-Nothing.is) c.requires.2 c.squeeze-end.ensures.0 c.squeeze-end.ensures.1

@@ -33,7 +33,7 @@ pub post_at-requires : goal.post_at-requires
 post_at-requires c = omega (arith, c.requires.n_in_bounds, entries_first c.args.edition 0 c.args.n (some _ c.if-n-eq0.false))
 
 pub same_entry-first-requires : goal.same_entry-first-requires
-same_entry-first-requires c =record { inside = inside_at (path_of c.args.path.now) 0 c.requires.n_value.1.inside (omega (arith, c.requires.n_value.0, some _ c.if-n-eq0.false)) c.vertex-a.ensures; edition_bound = omega (arith, (entry_most c.args.edition).1) }
+same_entry-first-requires c = record { inside = inside_at (path_of c.args.path.now) 0 c.requires.n_value.1.inside (omega (arith, c.requires.n_value.0, some _ c.if-n-eq0.false)) c.vertex-a.ensures; edition_bound = omega (arith, (entry_most c.args.edition).1) }
 
 pub overflow_add-second : goal.overflow_add-second
 overflow_add-second c = omega (arith, c.entry_bytes-second.ensures, (entry_most c.args.edition).1)
@@ -51,7 +51,7 @@ pub post_at-p-requires : goal.post_at-p-requires
 post_at-p-requires c = omega (arith, c.requires.n_in_bounds, entries_first c.args.edition c.loop-k.k c.args.n c.loop-k-test.true)
 
 pub compare_step-c-requires : goal.compare_step-c-requires
-compare_step-c-requires c =record { unit_long = (step_unit _ c.step-t.ensures, c.loop-k.invariant.2.around, inside_at (path_of c.args.path.now) c.loop-k.k c.requires.n_value.1.inside (omega (arith, c.requires.n_value.0, c.loop-k-test.true)) c.vertex-v.ensures, step_room c.step-t.ensures c.requires.n_value.1 (omega (arith, c.requires.n_value.2, c.loop-k.invariant.1))); edition_bound = (going_entry c.args.edition (posts_of (Stroke c.args.edition) c.args.n c.args.s.now) (path_of c.args.path.now) c.requires.n_value.1.count (c.front-base.ensures ∙ ap (front_bytes (Stroke c.args.edition)) c.requires.n_value.0) c.loop-k.invariant.2, going_at c.args.edition (posts_of (Stroke c.args.edition) c.args.n c.args.s.now) (path_of c.args.path.now) c.requires.n_value.1.count (c.front-base.ensures ∙ ap (front_bytes (Stroke c.args.edition)) c.requires.n_value.0) c.loop-k.invariant.2) }
+compare_step-c-requires c = record { unit_long = (step_unit _ c.step-t.ensures, c.loop-k.invariant.2.around, inside_at (path_of c.args.path.now) c.loop-k.k c.requires.n_value.1.inside (omega (arith, c.requires.n_value.0, c.loop-k-test.true)) c.vertex-v.ensures, step_room c.step-t.ensures c.requires.n_value.1 (omega (arith, c.requires.n_value.2, c.loop-k.invariant.1))); edition_bound = (going_entry c.args.edition (posts_of (Stroke c.args.edition) c.args.n c.args.s.now) (path_of c.args.path.now) c.requires.n_value.1.count (c.front-base.ensures ∙ ap (front_bytes (Stroke c.args.edition)) c.requires.n_value.0) c.loop-k.invariant.2, going_at c.args.edition (posts_of (Stroke c.args.edition) c.args.n c.args.s.now) (path_of c.args.path.now) c.requires.n_value.1.count (c.front-base.ensures ∙ ap (front_bytes (Stroke c.args.edition)) c.requires.n_value.0) c.loop-k.invariant.2) }
 
 pub overflow_add-k : goal.overflow_add-k
 overflow_add-k c = omega (arith, c.requires.n_value.0, c.requires.n_value.1.count, c.loop-k-test.true)
@@ -63,7 +63,7 @@ pub loop-k-preserved : goal.loop-k-preserved
 loop-k-preserved c = (omega (arith, c.loop-k-test.true), omega (arith, c.loop-k.invariant.1), going_step c.args.edition (posts_of (Stroke c.args.edition) c.args.n c.args.s.now) (path_of c.args.path.now) c.loop-k.k c.step-t.ensures c.requires.n_value.1.inside (omega (arith, c.requires.n_value.0, c.loop-k-test.true)) c.vertex-v.ensures (c.post_at-p.ensures ∙ sym (post_each c.args.edition c.args.n c.args.s.now c.loop-k.k c.loop-k-test.true)) c.loop-k.invariant.2 c.compare_step-c.ensures)
 
 pub compare_end-requires : goal.compare_end-requires
-compare_end-requires c =record { unit_long = (step_unit _ c.step-t.ensures, c.loop-k.invariant.2.around, step_room c.step-t.ensures c.requires.n_value.1 (omega (arith, c.requires.n_value.2, c.loop-k.invariant.1))); c_bound = (omega (arith, (entry_most c.args.edition).0, going_entry c.args.edition (posts_of (Stroke c.args.edition) c.args.n c.args.s.now) (path_of c.args.path.now) c.requires.n_value.1.count (c.front-base.ensures ∙ ap (front_bytes (Stroke c.args.edition)) c.requires.n_value.0) c.loop-k.invariant.2), going_at c.args.edition (posts_of (Stroke c.args.edition) c.args.n c.args.s.now) (path_of c.args.path.now) c.requires.n_value.1.count (c.front-base.ensures ∙ ap (front_bytes (Stroke c.args.edition)) c.requires.n_value.0) c.loop-k.invariant.2) }
+compare_end-requires c = record { unit_long = (step_unit _ c.step-t.ensures, c.loop-k.invariant.2.around, step_room c.step-t.ensures c.requires.n_value.1 (omega (arith, c.requires.n_value.2, c.loop-k.invariant.1))); c_bound = (omega (arith, (entry_most c.args.edition).0, going_entry c.args.edition (posts_of (Stroke c.args.edition) c.args.n c.args.s.now) (path_of c.args.path.now) c.requires.n_value.1.count (c.front-base.ensures ∙ ap (front_bytes (Stroke c.args.edition)) c.requires.n_value.0) c.loop-k.invariant.2), going_at c.args.edition (posts_of (Stroke c.args.edition) c.args.n c.args.s.now) (path_of c.args.path.now) c.requires.n_value.1.count (c.front-base.ensures ∙ ap (front_bytes (Stroke c.args.edition)) c.requires.n_value.0) c.loop-k.invariant.2) }
 
 pub shape_of-own : goal.shape_of-own
 shape_of-own c = omega arith

@@ -8,7 +8,7 @@ use Rattle.outline.proofs.OwnNumbers.{close_most, own_room, own_small, own_count
 use Rattle.comparing.proofs.compare.compare_end.Goals as goal
 
 pub close-n-requires : goal.close-n-requires
-close-n-requires c =record { unit_long = (c.requires.unit_long.0, c.requires.unit_long.1); room = own_room (close_most c.args.t c.args.c.walk) }
+close-n-requires c = record { unit_long = (c.requires.unit_long.0, c.requires.unit_long.1); room = own_room (close_most c.args.t c.args.c.walk) }
 
 pub overflow_cast-n : goal.overflow_cast-n
 overflow_cast-n c = omega (arith, own_small (close_most c.args.t c.args.c.walk) c.close-n.ensures)
@@ -17,7 +17,7 @@ pub same_word-table-requires : goal.same_word-table-requires
 same_word-table-requires c = word_room _ (omega arith)
 
 pub same_numbers-bodies-requires : goal.same_numbers-bodies-requires
-same_numbers-bodies-requires c =record { n_in_bounds = own_inside (close_most c.args.t c.args.c.walk) c.close-n.ensures (c.requires.unit_long.2.end c.args.c.walk); n_bound = omega (arith, own_small (close_most c.args.t c.args.c.walk) c.close-n.ensures, c.requires.c_bound.1) }
+same_numbers-bodies-requires c = record { n_in_bounds = own_inside (close_most c.args.t c.args.c.walk) c.close-n.ensures (c.requires.unit_long.2.end c.args.c.walk); n_bound = omega (arith, own_small (close_most c.args.t c.args.c.walk) c.close-n.ensures, c.requires.c_bound.1) }
 
 pub overflow_mul-end : goal.overflow_mul-end
 overflow_mul-end c = omega (arith, own_small (close_most c.args.t c.args.c.walk) c.close-n.ensures)

@@ -8,13 +8,13 @@ use Rattle.outline.proofs.OwnNumbers.{own_room, own_small, own_count, own_inside
 use Rattle.comparing.proofs.compare.compare_step.Goals as goal
 
 pub step-w-requires : goal.step-w-requires
-step-w-requires c =record { unit_long = (c.requires.unit_long.0, c.requires.unit_long.1, c.requires.unit_long.2); room = own_room (emitted_most c.args.t c.args.c.walk c.args.v) }
+step-w-requires c = record { unit_long = (c.requires.unit_long.0, c.requires.unit_long.1, c.requires.unit_long.2); room = own_room (emitted_most c.args.t c.args.c.walk c.args.v) }
 
 pub overflow_cast-n : goal.overflow_cast-n
 overflow_cast-n c = omega (arith, own_small (emitted_most c.args.t c.args.c.walk c.args.v) c.step-w.ensures.made)
 
 pub same_numbers-bodies-requires : goal.same_numbers-bodies-requires
-same_numbers-bodies-requires c =record { n_in_bounds = own_inside (emitted_most c.args.t c.args.c.walk c.args.v) c.step-w.ensures.made (c.requires.unit_long.3.step c.args.c.walk c.args.v); n_bound = omega (arith, own_small (emitted_most c.args.t c.args.c.walk c.args.v) c.step-w.ensures.made, c.requires.edition_bound.1) }
+same_numbers-bodies-requires c = record { n_in_bounds = own_inside (emitted_most c.args.t c.args.c.walk c.args.v) c.step-w.ensures.made (c.requires.unit_long.3.step c.args.c.walk c.args.v); n_bound = omega (arith, own_small (emitted_most c.args.t c.args.c.walk c.args.v) c.step-w.ensures.made, c.requires.edition_bound.1) }
 
 pub overflow_add-entry : goal.overflow_add-entry
 overflow_add-entry c = omega (arith, c.requires.edition_bound.0, c.entry_bytes.ensures)

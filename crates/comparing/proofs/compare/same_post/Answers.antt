@@ -8,7 +8,7 @@ pub same_word-requires : goal.same_word-requires
 same_word-requires c = word_room _ (omega (arith, c.requires))
 
 pub returns-in-First : goal.returns-in-First
-returns-in-First c = agree-first_post _ _ _ c.enum_told-1.given.1
+returns-in-First c = agree-first_post _ _ _ c.in-First.is
 
 pub returns-in-Second : goal.returns-in-Second
-returns-in-Second c = agree-second_post _ _ _ c.enum_told-in-Second-1.given.1 c.same_word.ensures
+returns-in-Second c = agree-second_post _ _ _ c.in-Second.is c.same_word.ensures

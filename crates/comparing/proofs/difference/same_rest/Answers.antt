@@ -6,7 +6,7 @@ pub same_style-requires : goal.same_style-requires
 same_style-requires c = kerb_within c.form-1.given.1 c.requires
 
 pub returns-in-Stroke : goal.returns-in-Stroke
-returns-in-Stroke c = rest_stroke _ c.enum_told-1.given.1
+returns-in-Stroke c = rest_stroke _ c.in-Stroke.is
 
 pub returns-in-Kerb : goal.returns-in-Kerb
 returns-in-Kerb c = rest_kerb _ c.form-1.given.1 c.same_style.ensures

@@ -23,7 +23,7 @@ pub shift-k-requires : goal.shift-k-requires
 shift-k-requires c = (omega (arith, above c), most c)
 
 pub tangent-t-requires : goal.tangent-t-requires
-tangent-t-requires c = (above c.before, most c.before, c.shift-k.ensures)
+tangent-t-requires c = (above (goal.at.tangent-t-requires c).After-square-sq, most (goal.at.tangent-t-requires c).After-square-sq, c.shift-k.ensures)
 
 pub overflow_sub-minus : goal.overflow_sub-minus
 overflow_sub-minus c = opposite_fits (facts c).tangent
@@ -32,14 +32,14 @@ pub numerator-requires : goal.numerator-requires
 numerator-requires c = let k = facts c in (c.requires.0, k.scaled, k.shifts.high, search (tangents, k.tangent))
 
 pub numerator-requires-2 : goal.numerator-requires-2
-numerator-requires-2 c = let k = facts c.before in (c.requires.0, k.scaled, k.shifts.high, search (tangents, k.tangent))
+numerator-requires-2 c = let k = facts (goal.at.numerator-requires-2 c).After-tangent-t in (c.requires.0, k.scaled, k.shifts.high, search (tangents, k.tangent))
 
 pub overflow_shl-result : goal.overflow_shl-result
-overflow_shl-result c = omega (arith, (facts c.before.before).shifts.high)
+overflow_shl-result c = omega (arith, (facts (goal.at.overflow_shl-result c).After-tangent-t).shifts.high)
 
 pub returns : goal.returns
 returns c =
-    let k = facts c.before.before in record { left = left_is _ _ c.ranges.delta c.square-sq.ensures c.shift-k.ensures c.tangent-t.ensures k.tangent c.numerator.ensures; right = (
+    let k = facts (goal.at.returns c).After-tangent-t in record { left = left_is _ _ c.ranges.delta c.square-sq.ensures c.shift-k.ensures c.tangent-t.ensures k.tangent c.numerator.ensures; right = (
         right_is _ _ c.ranges.delta c.square-sq.ensures c.shift-k.ensures c.tangent-t.ensures k.tangent c.numerator-2.ensures,
         divisor_is _ c.square-sq.ensures c.shift-k.ensures k.shifts.divisor,
       ); divisor =  }

@@ -9,43 +9,43 @@ fits : (c : After-turn-t) → SFits w64 c.turn-t.result
 fits c = record { sfits = c.turn-t.type_inv }
 
 pub returns-then-t-eq0 : goal.returns-then-t-eq0
-returns-then-t-eq0 c = covers_flat _ _ c.turn-t.ensures (fits c.before) c.if-t-eq0.true
+returns-then-t-eq0 c = covers_flat _ _ c.turn-t.ensures (fits (goal.at.returns-then-t-eq0 c).After-turn-t) c.if-t-eq0.true
 
 pub inside-requires : goal.inside-requires
 inside-requires c =
     let s = c.before.before.before.before.before.before in
-    let k = corners s.requires.0 in
-    (s.requires.1, k.left_b, k.right_b)
+    let k = corners c.requires.0 in
+    (c.requires.1, k.left_b, k.right_b)
 
 pub returns-then-not-inside : goal.returns-then-not-inside
 returns-then-not-inside c =
     let t = c.before.before.before in
-    covers_first _ _ t.turn-t.ensures (fits t) c.if-t-eq0.false
+    covers_first _ _ c.turn-t.ensures (fits (goal.at.returns-then-not-inside c).After-turn-t) c.if-t-eq0.false
     c.inside.ensures c.if-not-inside.true
 
 pub inside-requires-2 : goal.inside-requires-2
 inside-requires-2 c =
     let s = c.before.before.before.before.before.before.before.before in
-    let k = corners s.requires.0 in
-    (s.requires.1, k.left_a, k.left_b)
+    let k = corners c.requires.0 in
+    (c.requires.1, k.left_a, k.left_b)
 
 pub returns-then-not-inside-2 : goal.returns-then-not-inside-2
 returns-then-not-inside-2 c =
     let t = c.before.before.before.before.before in
-    covers_second _ _ t.turn-t.ensures (fits t) c.if-t-eq0.false
+    covers_second _ _ c.turn-t.ensures (fits (goal.at.returns-then-not-inside-2 c).After-turn-t) c.if-t-eq0.false
     c.inside.ensures c.if-not-inside.false
     c.inside-2.ensures c.if-not-inside-2.true
 
 pub inside-requires-3 : goal.inside-requires-3
 inside-requires-3 c =
     let s = c.before.before.before.before.before.before.before.before.before.before in
-    let k = corners s.requires.0 in
-    (s.requires.1, k.right_b, k.right_a)
+    let k = corners c.requires.0 in
+    (c.requires.1, k.right_b, k.right_a)
 
 pub returns-then-not-inside-3 : goal.returns-then-not-inside-3
 returns-then-not-inside-3 c =
     let t = c.before.before.before.before.before.before.before in
-    covers_third _ _ t.turn-t.ensures (fits t) c.if-t-eq0.false
+    covers_third _ _ c.turn-t.ensures (fits (goal.at.returns-then-not-inside-3 c).After-turn-t) c.if-t-eq0.false
     c.inside.ensures c.if-not-inside.false
     c.inside-2.ensures c.if-not-inside-2.false
     c.inside-3.ensures c.if-not-inside-3.true
@@ -53,13 +53,13 @@ returns-then-not-inside-3 c =
 pub inside-requires-4 : goal.inside-requires-4
 inside-requires-4 c =
     let s = c.before.before.before.before.before.before.before.before.before.before.before.before in
-    let k = corners s.requires.0 in
-    (s.requires.1, k.right_a, k.left_a)
+    let k = corners c.requires.0 in
+    (c.requires.1, k.right_a, k.left_a)
 
 pub returns : goal.returns
 returns c =
     let t = c.before.before.before.before.before.before.before.before in
-    covers_fourth _ _ t.turn-t.ensures (fits t) c.if-t-eq0.false
+    covers_fourth _ _ c.turn-t.ensures (fits (goal.at.returns c).After-turn-t) c.if-t-eq0.false
     c.inside.ensures c.if-not-inside.false
     c.inside-2.ensures c.if-not-inside-2.false
     c.inside-3.ensures c.if-not-inside-3.false

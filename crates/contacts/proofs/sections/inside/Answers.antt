@@ -12,7 +12,7 @@ use Rattle.plane.proofs.Products.{square_most}
 use Rattle.contacts.specs.Covering.{inside_of}
 use Rattle.contacts.proofs.Steps.{place_near}
 use Rattle.contacts.proofs.Covers.{way_short, cross_back, radius_cast, inward_cast, inside_as, inside_out, inside_tells}
-use Rattle.contacts.proofs.sections.inside.Goals.{After-from_to-v, After-inward-z, Start}
+use Rattle.contacts.proofs.sections.inside.Goals.{After-from_to-v, After-inward-z}
 use Rattle.contacts.proofs.sections.inside.Goals as goal
 
 pub from_to-requires : goal.from_to-requires
@@ -23,41 +23,34 @@ way : (c : After-from_to-v) → Short c.from_to-v.result
 way c = way_short c.from_to-v.ensures c.requires.1 c.requires.2
 
 pub cross-requires : goal.cross-requires
-cross-requires c = (way c.before.before, way_short c.from_to.ensures c.requires.1 (place_near _ c.centre.ensures c.requires.0))
+cross-requires c = (way (goal.at.cross-requires c).After-from_to-v, way_short c.from_to.ensures c.requires.1 (place_near _ c.centre.ensures c.requires.0))
 
 pub inward-z-requires : goal.inward-z-requires
 inward-z-requires c = let k = cross-requires c.before in cross_back c.cross.ensures k.0 k.1
 
--- what the rule asks of the inward cross product
-abbrev side : After-inward-z → After-from_to-v
-side c = c.before.before.before.before
-
-abbrev start : After-inward-z → Start
-start c = (side c).before
-
 asked : (c : After-inward-z) →
-    let s = (start c).args in
-    inside_of s.turn s.b s.p s.q ≡ le_z (s.b.radius *ℤ pos (root_up_of (square_of (side c).from_to-v.result))) c.inward-z.result
-asked c = inside_as _ _ _ _ (start c).ranges.turn (record { sfits = c.cross.type_inv }) (side c).from_to-v.ensures c.centre.ensures c.from_to.ensures c.cross.ensures c.inward-z.ensures
+    let s = c.args in
+    inside_of s.turn s.b s.p s.q ≡ le_z (s.b.radius *ℤ pos (root_up_of (square_of c.from_to-v.result))) c.inward-z.result
+asked c = inside_as _ _ _ _ c.ranges.turn (record { sfits = c.cross.type_inv }) c.from_to-v.ensures c.centre.ensures c.from_to.ensures c.cross.ensures c.inward-z.ensures
 
 fits : (c : After-inward-z) → SFits w64 c.inward-z.result
 fits c = record { sfits = c.inward-z.type_inv }
 
 pub returns-then-z-lt0 : goal.returns-then-z-lt0
-returns-then-z-lt0 c = inside_out _ _ _ c.requires.0.radius (fits c.before) (asked c.before) c.if-z-lt0.true
+returns-then-z-lt0 c = inside_out _ _ _ c.requires.0.radius (fits (goal.at.returns-then-z-lt0 c).After-inward-z) (asked (goal.at.returns-then-z-lt0 c).After-inward-z) c.if-z-lt0.true
 
 pub overflow_cast-b : goal.overflow_cast-b
 overflow_cast-b c = radius_cast c.requires.0.radius
 
 pub square-requires : goal.square-requires
-square-requires c = way (side c.before.before.before)
+square-requires c = way (goal.at.square-requires c).After-from_to-v
 
 pub overflow_cast-z : goal.overflow_cast-z
-overflow_cast-z c = inward_cast (fits c.before.before.before.before) c.if-z-lt0.false
+overflow_cast-z c = inward_cast (fits (goal.at.overflow_cast-z c).After-inward-z) c.if-z-lt0.false
 
 pub times_root_up_at_most-requires : goal.times_root_up_at_most-requires
-times_root_up_at_most-requires c = omega (arith, c.square.ensures, square_most (way (side c.before.before.before.before)))
+times_root_up_at_most-requires c = omega (arith, c.square.ensures, square_most (way (goal.at.times_root_up_at_most-requires c).After-from_to-v))
 
 pub returns : goal.returns
 returns c =
-    inside_tells _ _ _ c.requires.0.radius (fits c.before.before.before.before.before) (asked c.before.before.before.before.before) c.if-z-lt0.false (rw c.square.ensures at c.times_root_up_at_most.ensures)
+    inside_tells _ _ _ c.requires.0.radius (fits (goal.at.returns c).After-inward-z) (asked (goal.at.returns c).After-inward-z) c.if-z-lt0.false (rw c.square.ensures at c.times_root_up_at_most.ensures)

@@ -8,4 +8,4 @@ pub change_drawn-requires : goal.change_drawn-requires
 change_drawn-requires c = (known c.requires.0 c.form-1.given.1, posts_enough c.requires.0.sound.head c.requires.1, stroke_enough c.requires.0.sound.head c.requires.2)
 
 pub returns-in-Kerb : goal.returns-in-Kerb
-returns-in-Kerb c = replace_other c.requires.0 c.args.index c.args.v c.enum_told-1.given.1
+returns-in-Kerb c = replace_other c.requires.0 c.args.index c.args.v c.in-Kerb.is

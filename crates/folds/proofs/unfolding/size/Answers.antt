@@ -11,7 +11,7 @@ pub overflow_add-result : goal.overflow_add-result
 overflow_add-result c = omega (arith, size_bent c.f-1.given.1, size_most _ c.requires)
 
 pub returns-in-Straight : goal.returns-in-Straight
-returns-in-Straight c = size_straight c.enum_told-1.given.1
+returns-in-Straight c = size_straight c.in-Straight.is
 
 pub returns-in-Bent : goal.returns-in-Bent
 returns-in-Bent c = size_bent c.f-1.given.1

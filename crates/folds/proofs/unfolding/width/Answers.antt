@@ -3,7 +3,7 @@ use Rattle.folds.proofs.FoldByFold.{width_straight, width_bent}
 use Rattle.folds.proofs.unfolding.width.Goals as goal
 
 pub returns-in-Straight : goal.returns-in-Straight
-returns-in-Straight c = width_straight c.enum_told-1.given.1
+returns-in-Straight c = width_straight c.in-Straight.is
 
 pub returns-in-Bent : goal.returns-in-Bent
-returns-in-Bent c = width_bent c.enum_told-in-Bent-1.given.1
+returns-in-Bent c = width_bent c.in-Bent.is

@@ -16,7 +16,7 @@ pub returns-then-same : goal.returns-then-same
 returns-then-same c = lays_as (join_met _ _ _ (centres_told _ _ c.centre.ensures c.centre-2.ensures c.same.ensures c.if-same.true)) (lays_then c.left_join-n.ensures c.right_join.ensures)
 
 pub gap-requires : goal.gap-requires
-gap-requires c =record { unit_long = c.requires.unit_long; room = room_as (join_gap _ _ _ (centres_told _ _ c.centre.ensures c.centre-2.ensures c.same.ensures c.if-same.false)) c.requires.room }
+gap-requires c = record { unit_long = c.requires.unit_long; room = room_as (join_gap _ _ _ (centres_told _ _ c.centre.ensures c.centre-2.ensures c.same.ensures c.if-same.false)) c.requires.room }
 
 pub returns : goal.returns
 returns c = lays_as (join_gap _ _ _ (centres_told _ _ c.centre.ensures c.centre-2.ensures c.same.ensures c.if-same.false)) c.gap.ensures

@@ -27,7 +27,7 @@ pub vertex-a-requires : goal.vertex-a-requires
 vertex-a-requires c = omega (arith, c.requires.0, some _ c.if-n-eq0.false)
 
 pub put_entry-table-requires : goal.put_entry-table-requires
-put_entry-table-requires c =record { inside = inside_at (path_of c.args.path.now) 0 c.requires.1.inside (omega (arith, c.requires.0, some _ c.if-n-eq0.false)) c.vertex-a.ensures; room = room_entry c.args.edition _ _ _ (omega (arith, (entry_most c.args.edition).1)) }
+put_entry-table-requires c = record { inside = inside_at (path_of c.args.path.now) 0 c.requires.1.inside (omega (arith, c.requires.0, some _ c.if-n-eq0.false)) c.vertex-a.ensures; room = room_entry c.args.edition _ _ _ (omega (arith, (entry_most c.args.edition).1)) }
 
 pub fill_from-requires : goal.fill_from-requires
 fill_from-requires c =

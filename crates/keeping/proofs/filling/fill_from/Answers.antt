@@ -34,7 +34,7 @@ loop-k-preserved c =
     (omega (arith, c.loop-k-test.true), omega (arith, c.loop-k.invariant.1), around_next p c.loop-k.k c.requires.n_value.2 i c.vertex-b.ensures c.loop-k.invariant.2 c.fill_step-f.ensures.walk, step_on c.args.edition c.args.t c.args.posts.now p c.loop-k.invariant.3 i c.vertex-b.ensures c.post-p.ensures c.fill_step-f.ensures)
 
 pub fill_end-requires : goal.fill_end-requires
-fill_end-requires c =record { unit_long = (c.requires.unit_long.0, c.loop-k.invariant.2, room_more c.requires.unit_long.2 (omega (arith, c.loop-k.invariant.1))); apart = end_apart c.args.edition c.args.t c.args.posts.now (path_of c.args.path.now) c.loop-k.invariant.3 (omega (arith, c.requires.n_value.0, c.loop-k-test.false)) }
+fill_end-requires c = record { unit_long = (c.requires.unit_long.0, c.loop-k.invariant.2, room_more c.requires.unit_long.2 (omega (arith, c.loop-k.invariant.1))); apart = end_apart c.args.edition c.args.t c.args.posts.now (path_of c.args.path.now) c.loop-k.invariant.3 (omega (arith, c.requires.n_value.0, c.loop-k-test.false)) }
 
 pub shape_of-own : goal.shape_of-own
 shape_of-own c = omega (arith, c.loop-k.invariant.1)

@@ -8,7 +8,7 @@ pub put_word-requires : goal.put_word-requires
 put_word-requires c = word_room _ (omega (arith, c.requires))
 
 pub returns-in-First : goal.returns-in-First
-returns-in-First c = post_first _ c.enum_told-1.given.1
+returns-in-First c = post_first _ c.in-First.is
 
 pub returns-in-Second : goal.returns-in-Second
-returns-in-Second c = post_second c.enum_told-in-Second-1.given.1 c.put_word.ensures
+returns-in-Second c = post_second c.in-Second.is c.put_word.ensures

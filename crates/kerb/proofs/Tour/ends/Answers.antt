@@ -5,16 +5,16 @@ use Rattle.kerb.proofs.Tour.ends.Goals as goal
 
 pub returns-in-Sides : goal.returns-in-Sides
 unfolding ends_in
-returns-in-Sides c = ap (λ p. ends_in p c.args.more) (sym c.enum_told-1.given.1)
+returns-in-Sides c = ap (λ p. ends_in p c.args.more) (sym c.in-Sides.is)
 
 pub returns-in-Corners : goal.returns-in-Corners
 unfolding ends_in
-returns-in-Corners c = ap (λ p. ends_in p c.args.more) (sym c.enum_told-in-Corners-1.given.1)
+returns-in-Corners c = ap (λ p. ends_in p c.args.more) (sym c.in-Corners.is)
 
 pub returns-in-Caps : goal.returns-in-Caps
 unfolding ends_in
-returns-in-Caps c = ap (λ p. ends_in p c.args.more) (sym c.enum_told-in-Caps-1.given.1)
+returns-in-Caps c = ap (λ p. ends_in p c.args.more) (sym c.in-Caps.is)
 
 pub returns-in-Done : goal.returns-in-Done
 unfolding ends_in
-returns-in-Done c = ap (λ p. ends_in p c.args.more) (sym c.enum_told-in-Done-1.given.1)
+returns-in-Done c = ap (λ p. ends_in p c.args.more) (sym c.in-Done.is)

@@ -5,7 +5,7 @@ use Rattle.kerb.proofs.corners.caps.Goals as goal
 
 pub two-requires : goal.two-requires
 unfolding caps_both
-two-requires c =record { near = (near_left_a c.requires.clear.0, near_right_a c.requires.clear.0, near_right_b c.requires.clear.1, near_left_b c.requires.clear.1); room = c.requires.room }
+two-requires c = record { near = (near_left_a c.requires.clear.0, near_right_a c.requires.clear.0, near_right_b c.requires.clear.1, near_left_b c.requires.clear.1); room = c.requires.room }
 
 pub returns : goal.returns
 unfolding caps_both

@@ -30,7 +30,7 @@ pub straight-requires : goal.straight-requires
 straight-requires c = (unit_told c.from_to-m.ensures c.requires.unit_long.3.some c.direction-d.ensures, unit_told c.from_to-n.ensures c.requires.unit_long.4.some c.direction-e.ensures)
 
 pub edge-requires : goal.edge-requires
-edge-requires c =record { near = (off_near c.requires.unit_long.3 c.requires.unit_long.1, off_near c.requires.unit_long.4 c.requires.unit_long.1); room = room_as (round_edge _ _ _ _ _ c.from_to-m.ensures c.from_to-n.ensures c.direction-d.ensures c.direction-e.ensures c.straight.ensures c.if-straight.true) c.requires.room }
+edge-requires c = record { near = (off_near c.requires.unit_long.3 c.requires.unit_long.1, off_near c.requires.unit_long.4 c.requires.unit_long.1); room = room_as (round_edge _ _ _ _ _ c.from_to-m.ensures c.from_to-n.ensures c.direction-d.ensures c.direction-e.ensures c.straight.ensures c.if-straight.true) c.requires.room }
 
 pub returns-then-straight : goal.returns-then-straight
 returns-then-straight c = lays_as (round_edge _ _ _ _ _ c.from_to-m.ensures c.from_to-n.ensures c.direction-d.ensures c.direction-e.ensures c.straight.ensures c.if-straight.true) (lays_edge (off_near c.requires.unit_long.3 c.requires.unit_long.1) (off_near c.requires.unit_long.4 c.requires.unit_long.1) c.edge.ensures)

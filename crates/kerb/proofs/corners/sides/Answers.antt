@@ -5,7 +5,7 @@ use Rattle.kerb.proofs.corners.sides.Goals as goal
 
 pub two-requires : goal.two-requires
 unfolding sides_of
-two-requires c =record { near = (near_left_b c.requires.clear, near_left_a c.requires.clear, near_right_a c.requires.clear, near_right_b c.requires.clear); room = c.requires.room }
+two-requires c = record { near = (near_left_b c.requires.clear, near_left_a c.requires.clear, near_right_a c.requires.clear, near_right_b c.requires.clear); room = c.requires.room }
 
 pub returns : goal.returns
 unfolding sides_of

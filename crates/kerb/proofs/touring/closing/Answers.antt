@@ -16,4 +16,4 @@ pub returns-else-y : goal.returns-else-y
 returns-else-y c = lays_as (closing_open _ _ c.span-1.given.1 c.if-y.false) lays_none
 
 pub returns-in-Nothing : goal.returns-in-Nothing
-returns-in-Nothing c = lays_as (closing_none _ _ c.enum_told-1.given.1) lays_none
+returns-in-Nothing c = lays_as (closing_none _ _ c.in-Nothing.is) lays_none

@@ -9,4 +9,4 @@ returns-in-Held c = ap (λ e. held_of e c.args.s) (sym c.span-1.given.1)
 
 pub returns-in-Nothing : goal.returns-in-Nothing
 unfolding held_of
-returns-in-Nothing c = ap (λ e. held_of e c.args.s) (sym c.enum_told-1.given.1)
+returns-in-Nothing c = ap (λ e. held_of e c.args.s) (sym c.in-Nothing.is)

@@ -13,4 +13,4 @@ pub returns-in-Held : goal.returns-in-Held
 returns-in-Held c = lays_as (meets_held _ _ c.span-1.given.1 _) c.corner.ensures
 
 pub returns-in-Nothing : goal.returns-in-Nothing
-returns-in-Nothing c = lays_as (meets_none _ _ c.enum_told-1.given.1 _) lays_none
+returns-in-Nothing c = lays_as (meets_none _ _ c.in-Nothing.is _) lays_none

@@ -9,7 +9,7 @@ use Rattle.kerb_keeping.proofs.KerbFilled.{numbers_room, piece_filled}
 use Rattle.kerb_keeping.proofs.filling.fill_piece.Goals as goal
 
 pub piece-p-requires : goal.piece-p-requires
-piece-p-requires c =record { lent = (c.requires.lent.0, c.requires.lent.1, c.requires.lent.3); room = own_room (piece_few c.args.t c.args.y (way_of c.args.y (kerb_path c.args.y.radius c.args.points.now)) c.args.f.tour) }
+piece-p-requires c = record { lent = (c.requires.lent.0, c.requires.lent.1, c.requires.lent.3); room = own_room (piece_few c.args.t c.args.y (way_of c.args.y (kerb_path c.args.y.radius c.args.points.now)) c.args.f.tour) }
 
 pub overflow_add-f : goal.overflow_add-f
 overflow_add-f c = omega (arith, count_fits c.args.t c.args.y (kerb_path c.args.y.radius c.args.points.now) c.args.f.tour c.requires.phase_value.0 c.requires.phase_value.1 (lays_plain refl c.piece-p.ensures.made))
@@ -18,7 +18,7 @@ pub put_count-c-requires : goal.put_count-c-requires
 put_count-c-requires c = (entry_fits c.args.t c.args.y (kerb_path c.args.y.radius c.args.points.now) c.args.f.tour c.requires.phase_value.0 c.requires.phase_value.1, count_fits c.args.t c.args.y (kerb_path c.args.y.radius c.args.points.now) c.args.f.tour c.requires.phase_value.0 c.requires.phase_value.1 (lays_plain refl c.piece-p.ensures.made))
 
 pub put_numbers-bodies-requires : goal.put_numbers-bodies-requires
-put_numbers-bodies-requires c =record { n_in_bounds = own_inside (piece_few c.args.t c.args.y (way_of c.args.y (kerb_path c.args.y.radius c.args.points.now)) c.args.f.tour) (lays_plain refl c.piece-p.ensures.made) (piece_own c.args.t c.args.y (way_of c.args.y (kerb_path c.args.y.radius c.args.points.now)) c.args.f.tour c.requires.lent.2); room = numbers_room c.args.t c.args.y (kerb_path c.args.y.radius c.args.points.now) c.args.f.tour c.requires.phase_value.0 c.requires.phase_value.1 c.requires.lent.2 (lays_plain refl c.piece-p.ensures.made) }
+put_numbers-bodies-requires c = record { n_in_bounds = own_inside (piece_few c.args.t c.args.y (way_of c.args.y (kerb_path c.args.y.radius c.args.points.now)) c.args.f.tour) (lays_plain refl c.piece-p.ensures.made) (piece_own c.args.t c.args.y (way_of c.args.y (kerb_path c.args.y.radius c.args.points.now)) c.args.f.tour c.requires.lent.2); room = numbers_room c.args.t c.args.y (kerb_path c.args.y.radius c.args.points.now) c.args.f.tour c.requires.phase_value.0 c.requires.phase_value.1 c.requires.lent.2 (lays_plain refl c.piece-p.ensures.made) }
 
 pub returns : goal.returns
 returns c = piece_filled c.args.t c.args.y (kerb_path c.args.y.radius c.args.points.now) c.args.f c.requires.phase_value.0 c.requires.lent.2 c.piece-p.ensures c.put_count-c.ensures c.put_numbers-bodies.ensures

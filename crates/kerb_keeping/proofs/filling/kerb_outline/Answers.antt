@@ -47,7 +47,7 @@ pub step-requires : goal.step-requires
 step-requires c = (c.requires.n_value.1.low, c.requires.n_value.1.high)
 
 pub fill_tour-requires : goal.fill_tour-requires
-fill_tour-requires c =record { lent = (record { count = c.requires.n_value.0; some = (some _ c.if-n-eq0.false); few = omega (arith, c.requires.n_value.0, c.requires.n_value.1.count); inside = c.requires.n_value.1.inside; styled = record { radius = c.requires.n_value.2; draws = (rw (radius_back c.requires.n_value.2) at c.if-y-le1.false) } }, step_unit _ c.step.ensures, c.requires.n_value.3, c.first_tour.ensures.touring); tour_room = (tour_room c.args.grade c.args.y (kerb_path c.args.y.radius c.args.points.now) c.requires.n_value.0 c.requires.m_value c.put_header-base.ensures c.put_points-table.ensures (omega (arith, c.requires.n_value.0, (some _ c.if-n-eq0.false))) (rw (radius_back c.requires.n_value.2) at c.if-y-le1.false) c.step.ensures c.first_tour.ensures.tour c.requires.n_value.1.count, tour_apart c.args.grade c.args.y (kerb_path c.args.y.radius c.args.points.now) c.requires.n_value.0 c.requires.m_value c.put_header-base.ensures c.put_points-table.ensures (omega (arith, c.requires.n_value.0, (some _ c.if-n-eq0.false))) (rw (radius_back c.requires.n_value.2) at c.if-y-le1.false) c.step.ensures c.first_tour.ensures.tour c.requires.n_value.1.count) }
+fill_tour-requires c = record { lent = (record { count = c.requires.n_value.0; some = (some _ c.if-n-eq0.false); few = omega (arith, c.requires.n_value.0, c.requires.n_value.1.count); inside = c.requires.n_value.1.inside; styled = record { radius = c.requires.n_value.2; draws = (rw (radius_back c.requires.n_value.2) at c.if-y-le1.false) } }, step_unit _ c.step.ensures, c.requires.n_value.3, c.first_tour.ensures.touring); tour_room = (tour_room c.args.grade c.args.y (kerb_path c.args.y.radius c.args.points.now) c.requires.n_value.0 c.requires.m_value c.put_header-base.ensures c.put_points-table.ensures (omega (arith, c.requires.n_value.0, (some _ c.if-n-eq0.false))) (rw (radius_back c.requires.n_value.2) at c.if-y-le1.false) c.step.ensures c.first_tour.ensures.tour c.requires.n_value.1.count, tour_apart c.args.grade c.args.y (kerb_path c.args.y.radius c.args.points.now) c.requires.n_value.0 c.requires.m_value c.put_header-base.ensures c.put_points-table.ensures (omega (arith, c.requires.n_value.0, (some _ c.if-n-eq0.false))) (rw (radius_back c.requires.n_value.2) at c.if-y-le1.false) c.step.ensures c.first_tour.ensures.tour c.requires.n_value.1.count) }
 
 pub returns : goal.returns
 returns c = tour_written c.args.grade c.args.y (kerb_path c.args.y.radius c.args.points.now) c.requires.n_value.0 c.requires.m_value c.put_header-base.ensures c.put_points-table.ensures (omega (arith, c.requires.n_value.0, (some _ c.if-n-eq0.false))) (rw (radius_back c.requires.n_value.2) at c.if-y-le1.false) c.step.ensures c.first_tour.ensures.tour c.requires.n_value.1.count c.fill_tour.ensures

@@ -20,7 +20,7 @@ pub returns-then-s-needed : goal.returns-then-s-needed
 returns-then-s-needed c = rewrite_short (Kerb c.args.y) c.args.grade [] (kerb_path c.args.y.radius c.args.points.now) _ _ c.requires.0 c.count_kerb-m.ensures (sym c.without_edges-empty.ensures ∙ c.if-empty.false) (needed_is (Kerb c.args.y) c.args.grade [] (kerb_path c.args.y.radius c.args.points.now) c.requires.0 c.count_kerb-m.ensures c.whole_length-needed.ensures) c.if-s-needed.true
 
 pub write_kerb-requires : goal.write_kerb-requires
-write_kerb-requires c =record { n_value = (c.requires.0, c.requires.1, c.requires.2, c.requires.3); m_value = (c.count_kerb-m.ensures, omega (arith, needed_is (Kerb c.args.y) c.args.grade [] (kerb_path c.args.y.radius c.args.points.now) c.requires.0 c.count_kerb-m.ensures c.whole_length-needed.ensures, c.if-s-needed.false), c.requires.4) }
+write_kerb-requires c = record { n_value = (c.requires.0, c.requires.1, c.requires.2, c.requires.3); m_value = (c.count_kerb-m.ensures, omega (arith, needed_is (Kerb c.args.y) c.args.grade [] (kerb_path c.args.y.radius c.args.points.now) c.requires.0 c.count_kerb-m.ensures c.whole_length-needed.ensures, c.if-s-needed.false), c.requires.4) }
 
 pub returns : goal.returns
 returns c = rewrite_done (Kerb c.args.y) c.args.grade [] (kerb_path c.args.y.radius c.args.points.now) _ _ c.requires.0 c.count_kerb-m.ensures (sym c.without_edges-empty.ensures ∙ c.if-empty.false) (omega (arith, needed_is (Kerb c.args.y) c.args.grade [] (kerb_path c.args.y.radius c.args.points.now) c.requires.0 c.count_kerb-m.ensures c.whole_length-needed.ensures, c.if-s-needed.false)) c.write_kerb.ensures

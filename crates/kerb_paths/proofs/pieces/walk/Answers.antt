@@ -1,6 +1,5 @@
 -- `kerb_paths::pieces::walk` meets its contract: what is left of the tour is drawn on, piece by piece. Assumes nothing.
 use mathlib.Core.Path.{refl, sym, ap, ◌∙◌}
-use borrow.Author.Tests.{not-true, not-false}
 use Rattle.runs.proofs.Laws.{runs_none, runs_as, room_as}
 use Rattle.runs.proofs.Onward.{onward_start, onward_as, onward_done, onward_room}
 use Rattle.runs.proofs.Written.{written-length}
@@ -22,22 +21,22 @@ done-requires c = tt
 pub piece-s-requires : goal.piece-s-requires
 piece-s-requires c =
     let vs = kerb_path c.args.y.radius c.args.points.now in
-    let more = sym c.done.ensures ∙ not-true _ c.loop-y-test.true in
+    let more = sym c.done.ensures ∙ c.loop-y-test.true in
     let room = room_as (ap (rest_of c.args.t c.args.y (first_of vs) (way_of c.args.y vs)) (sym c.first_tour-w.ensures.tour)) c.requires.room in record { lent = (c.requires.lent.0, c.requires.lent.1, c.loop-y.invariant.0); room = piece_room c.args.t c.args.y (first_of vs) (way_of c.args.y vs) c.loop-y.w more (onward_room c.loop-y.invariant.1 room) }
 
 pub loop-y-smaller : goal.loop-y-smaller
-loop-y-smaller c = c.piece-s.ensures.fewer (sym c.done.ensures ∙ not-true _ c.loop-y-test.true)
+loop-y-smaller c = c.piece-s.ensures.fewer (sym c.done.ensures ∙ c.loop-y-test.true)
 
 pub loop-y-preserved : goal.loop-y-preserved
 loop-y-preserved c =
     let vs = kerb_path c.args.y.radius c.args.points.now in
-    let more = sym c.done.ensures ∙ not-true _ c.loop-y-test.true in
+    let more = sym c.done.ensures ∙ c.loop-y-test.true in
     (c.piece-s.ensures.touring, piece_onward c.args.t c.args.y (first_of vs) (way_of c.args.y vs) c.loop-y.w more c.piece-s.ensures.tour c.loop-y.invariant.1 (lays_plain refl c.piece-s.ensures.made))
 
 pub returns : goal.returns
 returns c =
     let vs = kerb_path c.args.y.radius c.args.points.now in
-    let done = sym c.done.ensures ∙ not-false _ c.loop-y-test.false in
+    let done = sym c.done.ensures ∙ c.loop-y-test.false in
     runs_as (ap (rest_of c.args.t c.args.y (first_of vs) (way_of c.args.y vs)) (sym c.first_tour-w.ensures.tour))
     (onward_done (onward_as (rest_done c.args.t c.args.y (first_of vs) (way_of c.args.y vs) c.loop-y.w done) c.loop-y.invariant.1) runs_none)
 

@@ -23,7 +23,7 @@ pub stops-requires : goal.stops-requires
 stops-requires c = (c.loop-left.invariant.1, next_unit c.requires.turns.0.step c.loop-left.invariant.1 c.rotated-next.ensures, c.requires.turns.0.toward, c.loop-left.invariant.2)
 
 pub past_last-requires : goal.past_last-requires
-past_last-requires c =record { turns = (c.requires.turns.0, c.loop-left.invariant.1); room = count_room (count_as c.loop-left.invariant.0 (turns_stop _ _ _ _ c.loop-left-test.true c.rotated-next.ensures c.stops.ensures c.if-stops.true)) c.requires.room }
+past_last-requires c = record { turns = (c.requires.turns.0, c.loop-left.invariant.1); room = count_room (count_as c.loop-left.invariant.0 (turns_stop _ _ _ _ c.loop-left-test.true c.rotated-next.ensures c.stops.ensures c.if-stops.true)) c.requires.room }
 
 pub returns-then-stops : goal.returns-then-stops
 returns-then-stops c = count_done (count_as c.loop-left.invariant.0 (turns_stop _ _ _ _ c.loop-left-test.true c.rotated-next.ensures c.stops.ensures c.if-stops.true)) c.past_last.ensures
@@ -35,7 +35,7 @@ pub past-n-requires : goal.past-n-requires
 past-n-requires c = step_room c.loop-left.invariant.0 _ _ _ (turns_go _ _ _ _ c.loop-left-test.true c.rotated-next.ensures c.stops.ensures c.if-stops.false refl) c.stays.ensures c.requires.room
 
 pub cross-z-requires-in-loop-left : goal.cross-z-requires-in-loop-left
-cross-z-requires-in-loop-left c = let s = c.before.before.before.before.before.before.before.before.before.before in (unit_short (next_unit s.requires.turns.0.step c.loop-left.invariant.1 c.rotated-next.ensures), unit_short s.requires.turns.0.toward)
+cross-z-requires-in-loop-left c = let s = c.before.before.before.before.before.before.before.before.before.before in (unit_short (next_unit c.requires.turns.0.step c.loop-left.invariant.1 c.rotated-next.ensures), unit_short c.requires.turns.0.toward)
 
 pub overflow_sub-left : goal.overflow_sub-left
 overflow_sub-left c = omega (arith, c.loop-left-test.true)
@@ -47,7 +47,7 @@ pub loop-left-preserved : goal.loop-left-preserved
 loop-left-preserved c = (step_count c.loop-left.invariant.0 _ _ _ (turns_go _ _ _ _ c.loop-left-test.true c.rotated-next.ensures c.stops.ensures c.if-stops.false refl) c.stays.ensures c.past-n.ensures, next_unit c.requires.turns.0.step c.loop-left.invariant.1 c.rotated-next.ensures, told c.cross-z-in-loop-left.type_inv c.cross-z-in-loop-left.ensures)
 
 pub past_last-requires-2 : goal.past_last-requires-2
-past_last-requires-2 c =record { turns = (c.requires.turns.0, c.loop-left.invariant.1); room = count_room (count_as c.loop-left.invariant.0 (turns_end _ _ _ _ c.loop-left-test.false)) c.requires.room }
+past_last-requires-2 c = record { turns = (c.requires.turns.0, c.loop-left.invariant.1); room = count_room (count_as c.loop-left.invariant.0 (turns_end _ _ _ _ c.loop-left-test.false)) c.requires.room }
 
 pub returns : goal.returns
 returns c = count_done (count_as c.loop-left.invariant.0 (turns_end _ _ _ _ c.loop-left-test.false)) c.past_last-2.ensures

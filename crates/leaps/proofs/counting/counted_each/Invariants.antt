@@ -1,7 +1,5 @@
 -- `leaps::counting::counted_each` meets its contract: what is still to come is counted on from where the loop has come to. Assumes nothing.
 use mathlib.Core.Path.{◌≡◌}
-use mir.Syntax.{w64}
-use mir.Val.{to_z}
 use Rattle.plane.specs.Vectors.{cross_of}
 use Rattle.plane.specs.Directions.{UnitLong}
 use Rattle.turning.specs.Arcs.{turns_of}
@@ -11,7 +9,7 @@ use Rattle.leaps.proofs.counting.counted_each.Given as goal
 
 abbrev pub invariant-loop-left : goal.invariant-loop-left
 invariant-loop-left l =
-    Counts l.n (turns_of l.left l.r l.dir (place_of l.r l.dir)) l.initial.n (turns_of l.initial.left l.r l.initial.dir (place_of l.r l.initial.dir)) × UnitLong l.dir × (to_z w64 l.z ≡ cross_of l.dir l.r.toward)
+    Counts l.n (turns_of l.left l.r l.dir (place_of l.r l.dir)) l.initial.n (turns_of l.initial.left l.r l.initial.dir (place_of l.r l.initial.dir)) × UnitLong l.dir × (l.z ≡ cross_of l.dir l.r.toward)
 
 abbrev pub decreases-loop-left : goal.decreases-loop-left
 decreases-loop-left l = l.left

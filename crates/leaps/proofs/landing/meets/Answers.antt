@@ -6,7 +6,7 @@ pub returns-then-coordinate-to : goal.returns-then-coordinate-to
 returns-then-coordinate-to c =
     let t = c.before.before in
     let s = t.before.before.before in
-    meets_both _ _ _ _ s.requires.0 s.requires.1 s.requires.2 s.ranges.to t.lowest.ensures t.coordinate.type_inv t.coordinate.ensures c.highest.ensures c.coordinate-then-coordinate-to.type_inv c.coordinate-then-coordinate-to.ensures t.if-coordinate-to.true
+    meets_both _ _ _ _ c.requires.0 c.requires.1 c.requires.2 c.ranges.to c.lowest.ensures c.coordinate.type_inv c.coordinate.ensures c.highest.ensures c.coordinate-then-coordinate-to.type_inv c.coordinate-then-coordinate-to.ensures c.if-coordinate-to.true
 
 pub returns : goal.returns
 returns c = meets_none

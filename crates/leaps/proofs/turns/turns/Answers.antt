@@ -16,10 +16,10 @@ cross-requires c = (unit_short c.requires.unit_long.0, unit_short c.requires.tur
 pub stops-requires : goal.stops-requires
 stops-requires c =
     let s = c.before.before.before in
-    (s.requires.unit_long.0, next_unit s.requires.turns.step s.requires.unit_long.0 c.rotated-next.ensures, s.requires.turns.toward, told c.cross.type_inv c.cross.ensures)
+    (c.requires.unit_long.0, next_unit c.requires.turns.step c.requires.unit_long.0 c.rotated-next.ensures, c.requires.turns.toward, told c.cross.type_inv c.cross.ensures)
 
 pub edge-requires : goal.edge-requires
-edge-requires c =record { near = (c.requires.unit_long.1, c.requires.turns.to); room = room_as (turns_stop _ _ _ _ (omega arith) c.rotated-next.ensures c.stops.ensures c.if-stops.true) c.requires.room }
+edge-requires c = record { near = (c.requires.unit_long.1, c.requires.turns.to); room = room_as (turns_stop _ _ _ _ (omega arith) c.rotated-next.ensures c.stops.ensures c.if-stops.true) c.requires.room }
 
 pub returns-then-stops : goal.returns-then-stops
 returns-then-stops c = runs_as (turns_stop _ _ _ _ (omega arith) c.rotated-next.ensures c.stops.ensures c.if-stops.true) c.edge.ensures
@@ -28,10 +28,10 @@ pub point_at-q-requires : goal.point_at-q-requires
 point_at-q-requires c = (c.requires.turns.centre, radius_told_lem c.requires.turns.radius, next_unit c.requires.turns.step c.requires.unit_long.0 c.rotated-next.ensures)
 
 pub edge-n-requires : goal.edge-n-requires
-edge-n-requires c =record { near = (c.requires.unit_long.1, point_reach c.requires.turns.centre c.requires.turns.radius (next_unit c.requires.turns.step c.requires.unit_long.0 c.rotated-next.ensures) c.point_at-q.ensures); room = room_first _ _ (room_as (turns_go _ _ _ _ (omega arith) c.rotated-next.ensures c.stops.ensures c.if-stops.false (point_is _ _ c.requires.turns.radius c.point_at-q.ensures)) c.requires.room) }
+edge-n-requires c = record { near = (c.requires.unit_long.1, point_reach c.requires.turns.centre c.requires.turns.radius (next_unit c.requires.turns.step c.requires.unit_long.0 c.rotated-next.ensures) c.point_at-q.ensures); room = room_first _ _ (room_as (turns_go _ _ _ _ (omega arith) c.rotated-next.ensures c.stops.ensures c.if-stops.false (point_is _ _ c.requires.turns.radius c.point_at-q.ensures)) c.requires.room) }
 
 pub counted-requires : goal.counted-requires
-counted-requires c =record { turns = (c.requires.turns, next_unit c.requires.turns.step c.requires.unit_long.0 c.rotated-next.ensures); room = room_as (ap (turns_of 1535 c.args.r c.rotated-next.result) (point_is _ _ c.requires.turns.radius c.point_at-q.ensures)) (room_then _ c.edge-n.ensures (room_as (turns_go _ _ _ _ (omega arith) c.rotated-next.ensures c.stops.ensures c.if-stops.false (point_is _ _ c.requires.turns.radius c.point_at-q.ensures)) c.requires.room)) }
+counted-requires c = record { turns = (c.requires.turns, next_unit c.requires.turns.step c.requires.unit_long.0 c.rotated-next.ensures); room = room_as (ap (turns_of 1535 c.args.r c.rotated-next.result) (point_is _ _ c.requires.turns.radius c.point_at-q.ensures)) (room_then _ c.edge-n.ensures (room_as (turns_go _ _ _ _ (omega arith) c.rotated-next.ensures c.stops.ensures c.if-stops.false (point_is _ _ c.requires.turns.radius c.point_at-q.ensures)) c.requires.room)) }
 
 pub returns : goal.returns
 returns c = runs_as (turns_go _ _ _ _ (omega arith) c.rotated-next.ensures c.stops.ensures c.if-stops.false (point_is _ _ c.requires.turns.radius c.point_at-q.ensures)) (past_then _ _ c.if-at-out.false c.edge-n.ensures (counted_at c.args.r c.rotated-next.result c.edge-n.result (point_is _ _ c.requires.turns.radius c.point_at-q.ensures) c.counted.ensures))

@@ -5,8 +5,8 @@ use Rattle.outline.proofs.layout.edition_number.Goals as goal
 
 pub returns-in-First : goal.returns-in-First
 unfolding edition_number
-returns-in-First c = sym (ap edition_number c.enum_told-1.given.1)
+returns-in-First c = sym (ap edition_number c.in-First.is)
 
 pub returns-in-Second : goal.returns-in-Second
 unfolding edition_number
-returns-in-Second c = sym (ap edition_number c.enum_told-in-Second-1.given.1)
+returns-in-Second c = sym (ap edition_number c.in-Second.is)

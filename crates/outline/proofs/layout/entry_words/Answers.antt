@@ -5,8 +5,8 @@ use Rattle.outline.proofs.layout.entry_words.Goals as goal
 
 pub returns-in-First : goal.returns-in-First
 unfolding stroke_words count_place
-returns-in-First c = sym (ap stroke_words c.enum_told-1.given.1)
+returns-in-First c = sym (ap stroke_words c.in-First.is)
 
 pub returns-in-Second : goal.returns-in-Second
 unfolding stroke_words count_place
-returns-in-Second c = sym (ap stroke_words c.enum_told-in-Second-1.given.1)
+returns-in-Second c = sym (ap stroke_words c.in-Second.is)

@@ -10,13 +10,13 @@ pub overflow_add-result : goal.overflow_add-result
 overflow_add-result c = omega (arith, c.requires, front_stroke c.args.n _ c.form-1.given.1 c.entry_bytes.ensures)
 
 pub overflow_mul-result-in-Kerb : goal.overflow_mul-result-in-Kerb
-overflow_mul-result-in-Kerb c = omega (arith, c.requires, front_kerb c.args.n c.enum_told-1.given.1)
+overflow_mul-result-in-Kerb c = omega (arith, c.requires, front_kerb c.args.n c.in-Kerb.is)
 
 pub overflow_add-result-in-Kerb : goal.overflow_add-result-in-Kerb
-overflow_add-result-in-Kerb c = omega (arith, c.requires, front_kerb c.args.n c.enum_told-1.given.1)
+overflow_add-result-in-Kerb c = omega (arith, c.requires, front_kerb c.args.n c.in-Kerb.is)
 
 pub returns-in-Stroke : goal.returns-in-Stroke
 returns-in-Stroke c = omega (arith, front_stroke c.args.n _ c.form-1.given.1 c.entry_bytes.ensures)
 
 pub returns-in-Kerb : goal.returns-in-Kerb
-returns-in-Kerb c = omega (arith, front_kerb c.args.n c.enum_told-1.given.1)
+returns-in-Kerb c = omega (arith, front_kerb c.args.n c.in-Kerb.is)

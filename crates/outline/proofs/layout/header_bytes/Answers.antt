@@ -4,7 +4,7 @@ use Rattle.outline.specs.Layout.{header_bytes}
 use Rattle.outline.proofs.layout.header_bytes.Goals as goal
 
 pub returns-in-Stroke : goal.returns-in-Stroke
-returns-in-Stroke c = sym (ap header_bytes c.enum_told-1.given.1)
+returns-in-Stroke c = sym (ap header_bytes c.in-Stroke.is)
 
 pub returns-in-Kerb : goal.returns-in-Kerb
-returns-in-Kerb c = sym (ap header_bytes c.enum_told-in-Kerb-1.given.1)
+returns-in-Kerb c = sym (ap header_bytes c.in-Kerb.is)

@@ -5,8 +5,8 @@ use Rattle.outline.proofs.layout.join_word.Goals as goal
 
 pub returns-in-Bevel : goal.returns-in-Bevel
 unfolding join_word
-returns-in-Bevel c = sym (ap join_word c.enum_told-1.given.1)
+returns-in-Bevel c = sym (ap join_word c.in-Bevel.is)
 
 pub returns-in-Round : goal.returns-in-Round
 unfolding join_word
-returns-in-Round c = sym (ap join_word c.enum_told-in-Round-1.given.1)
+returns-in-Round c = sym (ap join_word c.in-Round.is)

@@ -8,7 +8,7 @@ use Rattle.plane.proofs.direction.down.Goals.{In-loop-n}
 use Rattle.plane.proofs.direction.down.Goals as goal
 
 some : (c : In-loop-n) → 0 < c.loop-n.n
-some c = not_none _ _ _ (leb-false _ _ (sym c.within.ensures ∙ not-true _ c.loop-n-test.true))
+some c = not_none _ _ _ (leb-false _ _ (sym c.within.ensures ∙ c.loop-n-test.true))
 
 pub loop-n-init : goal.loop-n-init
 loop-n-init c = c.requires.0
@@ -26,4 +26,4 @@ pub loop-n-preserved : goal.loop-n-preserved
 loop-n-preserved c = omega (arith, c.loop-n.invariant)
 
 pub returns : goal.returns
-returns c = (c.loop-n.invariant, leb-true _ _ (sym c.within.ensures ∙ not-false _ c.loop-n-test.false))
+returns c = (c.loop-n.invariant, leb-true _ _ (sym c.within.ensures ∙ c.loop-n-test.false))

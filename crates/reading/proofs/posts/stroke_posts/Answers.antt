@@ -6,4 +6,4 @@ pub read_posts-requires : goal.read_posts-requires
 read_posts-requires c = (c.requires, c.form-1.given.1)
 
 pub returns-in-Kerb : goal.returns-in-Kerb
-returns-in-Kerb c = posts_other _ c.requires c.enum_told-1.given.1
+returns-in-Kerb c = posts_other _ c.requires c.in-Kerb.is

@@ -9,4 +9,4 @@ returns-in-Held c = ap end_reason (sym c.last-1.given.1)
 
 pub returns-in-Nothing : goal.returns-in-Nothing
 unfolding end_reason
-returns-in-Nothing c = ap end_reason (sym c.enum_told-1.given.1)
+returns-in-Nothing c = ap end_reason (sym c.in-Nothing.is)

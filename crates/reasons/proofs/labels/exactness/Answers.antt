@@ -14,24 +14,24 @@ returns-in-RightSide c = search rules
 
 pub returns-in-StartCap : goal.returns-in-StartCap
 unfolding exactness_of
-returns-in-StartCap c = ap exactness_of (sym c.enum_told-1.given.1)
+returns-in-StartCap c = ap exactness_of (sym c.in-StartCap.is)
 
 pub returns-in-EndCap : goal.returns-in-EndCap
 unfolding exactness_of
-returns-in-EndCap c = ap exactness_of (sym c.enum_told-in-EndCap-1.given.1)
+returns-in-EndCap c = ap exactness_of (sym c.in-EndCap.is)
 
 pub returns-in-LeftJoin : goal.returns-in-LeftJoin
 unfolding exactness_of
-returns-in-LeftJoin c = ap exactness_of (sym c.enum_told-in-LeftJoin-1.given.1)
+returns-in-LeftJoin c = ap exactness_of (sym c.in-LeftJoin.is)
 
 pub returns-in-RightJoin : goal.returns-in-RightJoin
 unfolding exactness_of
-returns-in-RightJoin c = ap exactness_of (sym c.enum_told-in-RightJoin-1.given.1)
+returns-in-RightJoin c = ap exactness_of (sym c.in-RightJoin.is)
 
 pub returns-in-Gap : goal.returns-in-Gap
 unfolding exactness_of
-returns-in-Gap c = ap exactness_of (sym c.enum_told-in-Gap-1.given.1)
+returns-in-Gap c = ap exactness_of (sym c.in-Gap.is)
 
 pub returns-in-Circle : goal.returns-in-Circle
 unfolding exactness_of
-returns-in-Circle c = ap exactness_of (sym c.enum_told-in-Circle-1.given.1)
+returns-in-Circle c = ap exactness_of (sym c.in-Circle.is)

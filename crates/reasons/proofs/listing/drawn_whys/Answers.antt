@@ -19,7 +19,7 @@ pub label-j-requires : goal.label-j-requires
 label-j-requires c = places_room _ _ _ (room_first _ _ (room_then _ c.label-i.ensures (room_as (drawn_whys c.args.v c.args.t c.args.chain c.args.s c.backwards-left_exact.ensures c.side-n.ensures c.side-m.ensures) c.requires.room)))
 
 pub meet_whys-requires : goal.meet_whys-requires
-meet_whys-requires c =record { unit_long = c.requires.unit_long; room = room_then _ c.label-j.ensures (room_then _ c.label-i.ensures (room_as (drawn_whys c.args.v c.args.t c.args.chain c.args.s c.backwards-left_exact.ensures c.side-n.ensures c.side-m.ensures) c.requires.room)) }
+meet_whys-requires c = record { unit_long = c.requires.unit_long; room = room_then _ c.label-j.ensures (room_then _ c.label-i.ensures (room_as (drawn_whys c.args.v c.args.t c.args.chain c.args.s c.backwards-left_exact.ensures c.side-n.ensures c.side-m.ensures) c.requires.room)) }
 
 pub returns : goal.returns
 returns c = runs_as (drawn_whys c.args.v c.args.t c.args.chain c.args.s c.backwards-left_exact.ensures c.side-n.ensures c.side-m.ensures) (runs_then c.label-i.ensures (runs_then c.label-j.ensures c.meet_whys.ensures))

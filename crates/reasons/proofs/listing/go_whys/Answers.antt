@@ -23,7 +23,7 @@ pub step-s-requires : goal.step-s-requires
 step-s-requires c = (c.requires.n_value.2, c.loop-k.invariant.1, (next_inside (path_of c.args.path.now) c.loop-k.k c.requires.n_value.1 (omega (arith, c.requires.n_value.0, c.loop-k-test.true)) c.vertex-b.ensures))
 
 pub step_whys-at-requires : goal.step_whys-at-requires
-step_whys-at-requires c =record { unit_long = (c.requires.n_value.2, c.loop-k.invariant.1, (next_inside (path_of c.args.path.now) c.loop-k.k c.requires.n_value.1 (omega (arith, c.requires.n_value.0, c.loop-k-test.true)) c.vertex-b.ensures), c.step-s.ensures.count); room = room_first _ _ (room_as (whys_step c.args.t (path_of c.args.path.now) c.loop-k.k c.loop-k.w (omega (arith, c.requires.n_value.0, c.loop-k-test.true)) c.vertex-b.ensures c.step-s.ensures.walk) (onward_room c.loop-k.invariant.2 (room_as (whys_start c.args.t (path_of c.args.path.now) (omega (arith, c.requires.n_value.0, c.requires.n_value.3)) c.vertex.ensures c.new-w.ensures) c.requires.room))) }
+step_whys-at-requires c = record { unit_long = (c.requires.n_value.2, c.loop-k.invariant.1, (next_inside (path_of c.args.path.now) c.loop-k.k c.requires.n_value.1 (omega (arith, c.requires.n_value.0, c.loop-k-test.true)) c.vertex-b.ensures), c.step-s.ensures.count); room = room_first _ _ (room_as (whys_step c.args.t (path_of c.args.path.now) c.loop-k.k c.loop-k.w (omega (arith, c.requires.n_value.0, c.loop-k-test.true)) c.vertex-b.ensures c.step-s.ensures.walk) (onward_room c.loop-k.invariant.2 (room_as (whys_start c.args.t (path_of c.args.path.now) (omega (arith, c.requires.n_value.0, c.requires.n_value.3)) c.vertex.ensures c.new-w.ensures) c.requires.room))) }
 
 pub overflow_add-k : goal.overflow_add-k
 overflow_add-k c = omega (arith, c.loop-k-test.true, c.requires.n_value.0, path_count c.args.path.now, c.well_formed.0.0)
@@ -35,7 +35,7 @@ pub loop-k-preserved : goal.loop-k-preserved
 loop-k-preserved c = (omega (arith, c.loop-k-test.true), next_walk (path_of c.args.path.now) c.loop-k.w c.loop-k.k (omega (arith, c.requires.n_value.0, c.loop-k-test.true)) c.vertex-b.ensures c.requires.n_value.1 c.step-s.ensures.walk c.loop-k.invariant.1, onward_step (onward_as (whys_step c.args.t (path_of c.args.path.now) c.loop-k.k c.loop-k.w (omega (arith, c.requires.n_value.0, c.loop-k-test.true)) c.vertex-b.ensures c.step-s.ensures.walk) c.loop-k.invariant.2) c.step_whys-at.ensures)
 
 pub finish_whys-requires : goal.finish_whys-requires
-finish_whys-requires c =record { unit_long = (c.requires.n_value.2, c.loop-k.invariant.1.chain); room = room_as (whys_end c.args.t (path_of c.args.path.now) c.loop-k.k c.loop-k.w (omega (arith, c.loop-k-test.false, c.loop-k.invariant.0)) (omega (arith, c.requires.n_value.0, c.loop-k-test.false))) (onward_room c.loop-k.invariant.2 (room_as (whys_start c.args.t (path_of c.args.path.now) (omega (arith, c.requires.n_value.0, c.requires.n_value.3)) c.vertex.ensures c.new-w.ensures) c.requires.room)) }
+finish_whys-requires c = record { unit_long = (c.requires.n_value.2, c.loop-k.invariant.1.chain); room = room_as (whys_end c.args.t (path_of c.args.path.now) c.loop-k.k c.loop-k.w (omega (arith, c.loop-k-test.false, c.loop-k.invariant.0)) (omega (arith, c.requires.n_value.0, c.loop-k-test.false))) (onward_room c.loop-k.invariant.2 (room_as (whys_start c.args.t (path_of c.args.path.now) (omega (arith, c.requires.n_value.0, c.requires.n_value.3)) c.vertex.ensures c.new-w.ensures) c.requires.room)) }
 
 pub returns : goal.returns
 returns c = runs_as (whys_start c.args.t (path_of c.args.path.now) (omega (arith, c.requires.n_value.0, c.requires.n_value.3)) c.vertex.ensures c.new-w.ensures) (onward_done (onward_as (whys_end c.args.t (path_of c.args.path.now) c.loop-k.k c.loop-k.w (omega (arith, c.loop-k-test.false, c.loop-k.invariant.0)) (omega (arith, c.requires.n_value.0, c.loop-k-test.false))) c.loop-k.invariant.2) c.finish_whys.ensures)

@@ -26,7 +26,7 @@ returns-in-NoRoom c = coded_told (ap refusal_of (sym c.r-in-NoRoom-1.given.1)) c
 
 pub returns-in-NotOutline : goal.returns-in-NotOutline
 unfolding refusal_of
-returns-in-NotOutline c = coded_told (ap refusal_of (sym c.enum_told-1.given.1)) c.coded-in-NotOutline.ensures
+returns-in-NotOutline c = coded_told (ap refusal_of (sym c.in-NotOutline.is)) c.coded-in-NotOutline.ensures
 
 pub returns-in-Kind : goal.returns-in-Kind
 unfolding refusal_of
@@ -58,7 +58,7 @@ returns-in-NotTaken c = coded_told (ap refusal_of (sym c.r-in-NotTaken-1.given.1
 
 pub returns-in-Damaged : goal.returns-in-Damaged
 unfolding refusal_of
-returns-in-Damaged c = coded_told (ap refusal_of (sym c.enum_told-in-Damaged-1.given.1)) c.coded-in-Damaged.ensures
+returns-in-Damaged c = coded_told (ap refusal_of (sym c.in-Damaged.is)) c.coded-in-Damaged.ensures
 
 pub returns-in-KeyThere : goal.returns-in-KeyThere
 unfolding refusal_of

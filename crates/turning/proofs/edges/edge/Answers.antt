@@ -9,7 +9,7 @@ returns-then-same c = runs_as (edge_none _ _ (sym c.same.ensures ∙ c.if-same.t
 
 pub emit-requires : goal.emit-requires
 emit-requires c =
-    let h = c.requires in record { reach = record { a = h.0.0; b = h.0.1 }; room = room_as (edge_some _ _ (sym c.same.ensures ∙ c.if-same.false)) h.1 }
+    let h = c.requires in record { reach = record { a = h.near.0; b = h.near.1 }; room = room_as (edge_some _ _ (sym c.same.ensures ∙ c.if-same.false)) h.room }
 
 pub returns : goal.returns
 returns c = runs_as (edge_some _ _ (sym c.same.ensures ∙ c.if-same.false)) c.emit.ensures

@@ -18,10 +18,10 @@ returns-then-same-2 c = empty_end _ _ _ _ (sym c.same-2.ensures ∙ c.if-same-2.
 
 pub returns-in-Minor : goal.returns-in-Minor
 returns-in-Minor c =
-    let o = off c.before.before.before in
-    c.same-in-Minor.ensures ∙ empty_minor _ _ _ c.enum_told-1.given.1 o.0 o.1
+    let o = off (goal.at.returns-in-Minor c).Else-same-2 in
+    c.same-in-Minor.ensures ∙ empty_minor _ _ _ c.in-Minor.is o.0 o.1
 
 pub returns-in-Major : goal.returns-in-Major
 returns-in-Major c =
-    let o = off c.before.before in
-    empty_major _ _ _ c.enum_told-in-Major-1.given.1 o.0 o.1
+    let o = off (goal.at.returns-in-Major c).Else-same-2 in
+    empty_major _ _ _ c.in-Major.is o.0 o.1

@@ -2,8 +2,6 @@
 -- direction. The measure is the rotations left.
 -- Assumes nothing.
 use mathlib.Core.Path.{◌≡◌}
-use mir.Syntax.{w64}
-use mir.Val.{to_z}
 use Rattle.runs.specs.Runs.{put}
 use Rattle.runs.proofs.Onward.{Onward}
 use Rattle.plane.specs.Vectors.{Near, cross_of}
@@ -15,7 +13,7 @@ use Rattle.turning.proofs.turn.written.Given as goal
 
 abbrev pub invariant-loop-left : goal.invariant-loop-left
 invariant-loop-left l =
-    Onward put edge_numbers l.initial.out l.initial.n (turns_of l.initial.left l.r l.initial.dir l.initial.cur) l.out l.n (turns_of l.left l.r l.dir l.cur) × UnitLong l.dir × Near l.cur × (to_z w64 l.z ≡ cross_of l.dir l.r.toward) × (l.s ≡ swing_of l.r.step l.dir)
+    Onward put edge_numbers l.initial.out l.initial.n (turns_of l.initial.left l.r l.initial.dir l.initial.cur) l.out l.n (turns_of l.left l.r l.dir l.cur) × UnitLong l.dir × Near l.cur × (l.z ≡ cross_of l.dir l.r.toward) × (l.s ≡ swing_of l.r.step l.dir)
 
 abbrev pub decreases-loop-left : goal.decreases-loop-left
 decreases-loop-left l = l.left

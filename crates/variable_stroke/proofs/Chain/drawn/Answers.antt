@@ -14,7 +14,7 @@ edge-m-requires c =
     let h = right_reach c.requires.unit_long.2 in record { near = (h.a, h.b); room = room_first _ _ (room_then _ c.edge-n.ensures (room_as (drawn_is _ _ _) c.requires.room)) }
 
 pub meet-requires : goal.meet-requires
-meet-requires c =record { unit_long = c.requires.unit_long; room = room_then _ c.edge-m.ensures (room_then _ c.edge-n.ensures (room_as (drawn_is _ _ _) c.requires.room)) }
+meet-requires c = record { unit_long = c.requires.unit_long; room = room_then _ c.edge-m.ensures (room_then _ c.edge-n.ensures (room_as (drawn_is _ _ _) c.requires.room)) }
 
 pub returns : goal.returns
 returns c = lays_as (drawn_is _ _ _) (lays_then (lays_edge (left_reach c.requires.unit_long.2).b (left_reach c.requires.unit_long.2).a c.edge-n.ensures) (lays_then (lays_edge (right_reach c.requires.unit_long.2).a (right_reach c.requires.unit_long.2).b c.edge-m.ensures) c.meet.ensures))

@@ -6,13 +6,13 @@ use Rattle.variable_stroke.proofs.ChainSteps.{finish_by}
 use Rattle.variable_stroke.proofs.Chain.finish.Goals as goal
 
 pub end-n-requires : goal.end-n-requires
-end-n-requires c =record { unit_long = c.requires.unit_long; room = room_as (finish_by _ _ _ c.enum_told-1.given.1) c.requires.room }
+end-n-requires c = record { unit_long = c.requires.unit_long; room = room_as (finish_by _ _ _ c.in-Round.is) c.requires.room }
 
 pub end-n-requires-in-Butt : goal.end-n-requires-in-Butt
-end-n-requires-in-Butt c =record { unit_long = c.requires.unit_long; room = room_as (finish_by _ _ _ c.enum_told-in-Butt-1.given.1) c.requires.room }
+end-n-requires-in-Butt c = record { unit_long = c.requires.unit_long; room = room_as (finish_by _ _ _ c.in-Butt.is) c.requires.room }
 
 pub returns-in-Round : goal.returns-in-Round
-returns-in-Round c = record { chain = refl; made = lays_as (finish_by _ _ _ c.enum_told-1.given.1) c.end-n.ensures }
+returns-in-Round c = record { chain = refl; made = lays_as (finish_by _ _ _ c.in-Round.is) c.end-n.ensures }
 
 pub returns-in-Butt : goal.returns-in-Butt
-returns-in-Butt c = record { chain = refl; made = lays_as (finish_by _ _ _ c.enum_told-in-Butt-1.given.1) c.end-n-in-Butt.ensures }
+returns-in-Butt c = record { chain = refl; made = lays_as (finish_by _ _ _ c.in-Butt.is) c.end-n-in-Butt.ensures }

@@ -8,7 +8,7 @@ use Rattle.contacts.proofs.Contacts.{section_around}
 use Rattle.variable_stroke.proofs.Walk.drawn.Goals as goal
 
 pub leave-left-requires : goal.leave-left-requires
-leave-left-requires c =record { unit_long = (c.requires.unit_long.0, c.requires.unit_long.1, c.requires.unit_long.2); room = room_first _ _ (room_as (emitted_drawn _ _ _ c.requires.unit_long.3 refl refl) c.requires.room) }
+leave-left-requires c = record { unit_long = (c.requires.unit_long.0, c.requires.unit_long.1, c.requires.unit_long.2); room = room_first _ _ (room_as (emitted_drawn _ _ _ c.requires.unit_long.3 refl refl) c.requires.room) }
 
 pub section-s-requires : goal.section-s-requires
 section-s-requires c = (c.requires.unit_long.1.at, c.requires.unit_long.2, drawn_whole _ _ c.requires.unit_long.3)

@@ -3,10 +3,10 @@ use mathlib.Core.Path.{sym, ◌∙◌}
 use Rattle.variable_stroke.proofs.Walk.stride.Goals as goal
 
 pub broken-requires : goal.broken-requires
-broken-requires c =record { unit_long = (c.requires.unit_long.0, c.requires.unit_long.1, c.requires.unit_long.2, sym c.kind-k.ensures ∙ c.enum_told-1.given.1); room = c.requires.room }
+broken-requires c = record { unit_long = (c.requires.unit_long.0, c.requires.unit_long.1, c.requires.unit_long.2, sym c.kind-k.ensures ∙ c.in-Broken.is); room = c.requires.room }
 
 pub drawn-requires : goal.drawn-requires
-drawn-requires c =record { unit_long = (c.requires.unit_long.0, c.requires.unit_long.1, c.requires.unit_long.2, sym c.kind-k.ensures ∙ c.enum_told-in-Drawn-1.given.1); room = c.requires.room }
+drawn-requires c = record { unit_long = (c.requires.unit_long.0, c.requires.unit_long.1, c.requires.unit_long.2, sym c.kind-k.ensures ∙ c.in-Drawn.is); room = c.requires.room }
 
 pub thin-requires : goal.thin-requires
-thin-requires c =record { unit_long = (c.requires.unit_long.0, c.requires.unit_long.1, c.requires.unit_long.2, sym c.kind-k.ensures ∙ c.enum_told-in-Thin-1.given.1); room = c.requires.room }
+thin-requires c = record { unit_long = (c.requires.unit_long.0, c.requires.unit_long.1, c.requires.unit_long.2, sym c.kind-k.ensures ∙ c.in-Thin.is); room = c.requires.room }

@@ -10,4 +10,4 @@ pub overflow_add-end : goal.overflow_add-end
 overflow_add-end c = omega (arith, words_room _ _ c.requires.n_in_bounds c.requires.room)
 
 pub place_numbers-requires : goal.place_numbers-requires
-place_numbers-requires c =record { n_in_bounds = c.requires.n_in_bounds; n_in_bounds_2 = omega (arith, c.if-s-end.false) }
+place_numbers-requires c = record { n_in_bounds = c.requires.n_in_bounds; n_in_bounds_2 = omega (arith, c.if-s-end.false) }

@@ -1,0 +1,97 @@
+-- `oldest::taking::whole` meets its contract: each way out is a law of proofs/Reasons.antt. A constant of the code is read from its bit pattern.
+-- Assumes nothing.
+use Rattle.std.proofs.Common.{◌≡◌, ◌<◌, ◌≤◌, true, false, not, ℤ, sym, ap, ◌∙◌, subst, w32, w64, SFits, to_z, of_z}
+use lib.Ieee.{Float, of_bits, neg, div, eq, ne, binary32, of_int}
+use mir.ValLaws.{to_z-of_z}
+use Rattle.oldest.specs.Floats.{has_fraction, magnitude_of, whole_of}
+use Rattle.oldest.specs.Taken.{whole_within}
+use Rattle.oldest.specs.declared.Taken.TheVariants.{Whole, TooLarge}
+use Rattle.oldest.specs.Theorems.{Fits32}
+use Rattle.oldest.proofs.Tests.{nan_is, infinite_is, Finite, finite, no_nan, no_infinite, above, under, within, asks, truncated, in_i32, comes_back}
+use Rattle.oldest.proofs.Reasons.{first_nan, first_infinite, first_fraction, first_large, no_reason}
+use Rattle.oldest.proofs.taking.whole.Goals as goal
+
+pub returns-then-x : goal.returns-then-x
+unfolding whole_within
+returns-then-x c = first_nan _ c.args.x _ (sym (nan_is c.args.x) ∙ c.if-x.true)
+
+pub returns-then-x-2 : goal.returns-then-x-2
+unfolding of_bits neg div whole_within
+returns-then-x-2 c = let i = infinite_is false c.args.x c.if-x-2.true in first_infinite _ c.args.x _ i.0 i.1
+
+pub returns-then-x-3 : goal.returns-then-x-3
+unfolding of_bits neg div whole_within
+returns-then-x-3 c = let i = infinite_is true c.args.x c.if-x-3.true in first_infinite _ c.args.x _ i.0 i.1
+
+-- past the first three tests x is a number
+module _ (c : tie.Else3) where
+  number : Finite c.before.before.before.args.x
+  unfolding of_bits neg div
+  number = finite c.before.before.before.args.x c.before.before.if1.false c.before.if2.false c.if3.false
+
+  beyond : (has_fraction c.before.before.before.args.x ≡ false) × (536870912 < magnitude_of c.before.before.before.args.x)
+      → TooLarge c.before.before.before.args.x ≡ whole_within 536870912 c.before.before.before.args.x
+  unfolding whole_within
+  beyond h = first_large 536870912 c.before.before.before.args.x _ (no_nan _ number) (no_infinite _ number) h.0 h.1
+
+pub returns-then-x-4 : goal.returns-then-x-4
+unfolding of_bits neg div
+returns-then-x-4 c = beyond c.before (above _ (number c.before) c.well_formed.0.1 c.if-x-4.true)
+
+pub returns-then-x-5 : goal.returns-then-x-5
+unfolding of_bits neg div
+returns-then-x-5 c = beyond c.before.before (under _ (number c.before.before) c.well_formed.0.1 c.if-x-5.true)
+
+-- past the next two it is no larger than a width
+module _ (c : tie.Else5) where
+  abbrev x : Float
+  x = c.before.before.before.before.before.args.x
+
+  finite_x : Finite x
+  finite_x = number c.before.before
+
+  fits_x : Fits32 x
+  fits_x = c.before.before.before.before.before.well-formed.0.1
+
+  small : magnitude_of x ≤ 536870912
+  unfolding of_bits neg div
+  small = within x c.before.if4.false c.if5.false
+
+pub truncating_f32_to_i64-n-requires : goal.truncating_f32_to_i64-n-requires
+unfolding of_bits neg div
+truncating_f32_to_i64-n-requires c = asks (x c) (finite_x c) c.if-x-4.false c.if-x-5.false
+
+-- the number that the truncation gives
+module _ (c : tie.After-truncating-f32-to-i64) where
+  wide : to_z w64 (of_z w64 c.truncating-f32-to-i64.result) ≡ whole_of (x c.before)
+  wide = to_z-of_z w64 c.truncating-f32-to-i64.result record { sfits = c.truncating-f32-to-i64.type-inv } ∙ c.truncating-f32-to-i64.ensures ∙ truncated (x c.before) (finite_x c.before) (small c.before)
+
+  fits_32 : SFits w32 (whole_of (x c.before))
+  fits_32 = in_i32 (x c.before) (small c.before)
+
+  cut : to_z w32 (of_z w32 (to_z w64 (of_z w64 c.truncating-f32-to-i64.result))) ≡ whole_of (x c.before)
+  cut = ap (λ (z : ℤ). to_z w32 (of_z w32 z)) wide ∙ to_z-of_z w32 (whole_of (x c.before)) fits_32
+
+pub overflow_cast-n : goal.overflow_cast-n
+overflow_cast-n c = subst (SFits w32) (sym (wide c)) (fits_32 c)
+
+-- whether it comes back tells whether there is a fraction
+module _ (c : tie.After-nearest-i32-to-f32) where
+  fraction : ne c.nearest-i32-to-f32.result (x c.before.before) ≡ has_fraction (x c.before.before)
+  unfolding ne
+  fraction =
+      ap (λ (y : Float). not (eq y (x c.before.before))) (c.nearest-i32-to-f32.ensures ∙ ap (of_int binary32) (cut c.before))
+      ∙ comes_back (x c.before.before) (finite_x c.before.before) (fits_x c.before.before) (small c.before.before)
+
+pub returns-then-nearest_i32_to_f32-x : goal.returns-then-nearest_i32_to_f32-x
+unfolding whole_within
+returns-then-nearest_i32_to_f32-x c =
+    let d = c.before.before.before in
+    first_fraction _ (x d) _ (no_nan _ (finite_x d)) (no_infinite _ (finite_x d)) (sym (fraction c.before) ∙ c.if-nearest_i32_to_f32-x.true)
+
+pub returns : goal.returns
+unfolding whole_within
+returns c =
+    let d = c.before.before.before in
+    ap Whole (cut c.before.before)
+    ∙ no_reason _ (x d) _ (record { number = no_nan _ (finite_x d); finite = no_infinite _ (finite_x d); whole = sym (fraction c.before) ∙ c.if-nearest_i32_to_f32-x.false; within = small d })

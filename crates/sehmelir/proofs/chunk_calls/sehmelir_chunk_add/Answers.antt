@@ -1,0 +1,6 @@
+-- `sehmelir::chunk_calls::sehmelir_chunk_add` meets its contract: the call's own promise, by its number. Assumes nothing.
+use Rattle.sehmelir.proofs.Told.{told_as}
+use Rattle.sehmelir.proofs.chunk_calls.sehmelir_chunk_add.Goals as goal
+
+pub returns : goal.returns
+returns c = record { replies = told_as c.add.ensures.reply c.done.ensures; chunk = c.add.ensures.chunk }

@@ -1,0 +1,13 @@
+-- `sehmelir::imported` meets its contract: each answer has its number. Assumes nothing.
+use mathlib.Core.Path.{sym, ap}
+use Rattle.oldest.specs.Answers.{reply_of_imported}
+use Rattle.sehmelir.proofs.Told.{told, told_as}
+use Rattle.sehmelir.proofs.imported.Goals as goal
+
+pub returns-in-Vertices : goal.returns-in-Vertices
+unfolding reply_of_imported
+returns-in-Vertices c = told (ap reply_of_imported (sym c.answer-1.given.1)) c.plain.ensures
+
+pub returns-in-Refused : goal.returns-in-Refused
+unfolding reply_of_imported
+returns-in-Refused c = told_as (ap reply_of_imported (sym c.answer-in-Refused-1.given.1)) c.refusal.ensures

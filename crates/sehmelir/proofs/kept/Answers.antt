@@ -1,0 +1,13 @@
+-- `sehmelir::kept` meets its contract: each answer has its number. Assumes nothing.
+use mathlib.Core.Path.{sym, ap}
+use Rattle.keeping.specs.Keeping.{reply_of_kept}
+use Rattle.sehmelir.proofs.Told.{told, told_as}
+use Rattle.sehmelir.proofs.kept.Goals as goal
+
+pub returns-in-Bytes : goal.returns-in-Bytes
+unfolding reply_of_kept
+returns-in-Bytes c = told (ap reply_of_kept (sym c.answer-1.given.1)) c.plain.ensures
+
+pub returns-in-Refused : goal.returns-in-Refused
+unfolding reply_of_kept
+returns-in-Refused c = told_as (ap reply_of_kept (sym c.answer-in-Refused-1.given.1)) c.refusal.ensures

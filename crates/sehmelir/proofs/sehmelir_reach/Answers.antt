@@ -1,0 +1,6 @@
+-- `sehmelir::sehmelir_reach` meets its contract: the call's own promise, by its number. Assumes nothing.
+use Rattle.sehmelir.proofs.Told.{told_as}
+use Rattle.sehmelir.proofs.sehmelir_reach.Goals as goal
+
+pub returns : goal.returns
+returns c = record { replies = told_as c.reach.ensures.reply c.reached.ensures }
