@@ -24,14 +24,10 @@ pub fn fill<R: Read>(input: &mut R, buffer: &mut [u8], filled: usize) -> io::Res
 pub fn whole_lines(text: &[u8]) -> usize
     ensures { result ≤ length text.now }
 {
-    let mut i = text.len();
-    while 0 < i {
-        if text[i - 1] == b'\n' {
-            return i;
-        }
-        i -= 1;
+    match text.iter().rposition(|byte| *byte == b'\n') {
+        Some(last) => last + 1,
+        None => 0,
     }
-    0
 }
 
 // How many bytes at the front can be worked through: the whole lines, or the last line if the input has ended before its line end. None if nothing

@@ -1,6 +1,5 @@
 -- `lines::line::read_numbers` meets its contract: each turn reads one number more, up to `most`, and `next` stays within the line. Assumes nothing.
-use Prim.Native.Nat.{◌≤◌, ◌-◌}
-use lib.ListN.{length}
+use Rattle.std.proofs.Common.{length, ◌-◌, ◌≤◌}
 use Rattle.lines.proofs.line.read_numbers.Given as goal
 
 abbrev pub invariant-loop-count : goal.invariant-loop-count
