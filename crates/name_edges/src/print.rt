@@ -61,11 +61,7 @@ fn edge_line<W: Write>(
 
 // The first m edges of a list, or all if it has no more.
 pub fn edges<W: Write>(page: &mut W, list: &[usize], m: usize) -> io::Result<()> {
-    let mut edge: usize = 0;
-    while edge < list.len() / 5 {
-        if m <= edge {
-            return Ok(());
-        }
+    for edge in 0..m.min(list.len() / 5) {
         let at = 5 * edge;
         edge_line(
             page,
@@ -76,7 +72,6 @@ pub fn edges<W: Write>(page: &mut W, list: &[usize], m: usize) -> io::Result<()>
             list[at + 3],
             list[at + 4],
         )?;
-        edge += 1;
     }
     Ok(())
 }
