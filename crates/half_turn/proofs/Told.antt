@@ -71,7 +71,7 @@ pair_west {i = i} h k e f g =
 
 -- a number that has the bits n
 bits_are : {a : ℤ} (n : ℕ) → mag a < 2 ^ 63 → of_z w64 a ≡ n → a ≡ to_z w64 n
-bits_are n h e = sym (to_z-of_z (record { sfits = h })) ∙ ap (to_z w64) e
+bits_are n h e = sym (to_z-of_z {w = w64} (record { sfits = h })) ∙ ap (to_z w64) e
 
 pub finest_told : (t : Vector) → mag t.x < 2 ^ 63 → mag t.y < 2 ^ 63 → of_z w64 t.x ≡ 1073709056 → Finest t (eqb (of_z w64 t.y) 8388480)
 finest_told t h k e = record { finest = λ f. (λ i. record { x = bits_are {a = t.x} 1073709056 h e i; y = bits_are {a = t.y} 8388480 k (eqb-true _ _ f) i }) ∙ step_eight }

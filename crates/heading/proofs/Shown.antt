@@ -38,7 +38,7 @@ use Rattle.heading.specs.Shows.{point_numbers, lent_numbers, lent_width, shown_r
 -- ---- numbers stored: x, y and r are what the code has for them, and u, v and w for their words
 
 number_told : {z : ℤ} {w w' : ℕ} → mag z < 2 ^ 31 → z ≡ number_of w → w ≡ w' → to_z w32 (of_z w32 z) ≡ number_of w'
-number_told h e f = to_z-of_z (record { sfits = h }) ∙ e ∙ ap number_of f
+number_told h e f = to_z-of_z {w = w32} (record { sfits = h }) ∙ e ∙ ap number_of f
 
 pub vertex_shown : {l : List ℤ} {at : ℕ} (e : Edition) (s : List ℕ) (k : ℕ) {x y r : ℤ} {u v w wide : ℕ} → wide ≡ stroke_words e → mag x < 2 ^ 31 → mag y < 2 ^ 31 → mag r < 2 ^ 31 → x ≡ number_of u → y ≡ number_of v → r ≡ number_of w
     → u ≡ word_at s (5 + wide * k) → v ≡ word_at s (5 + wide * k + 1) → w ≡ word_at s (5 + wide * k + 2)

@@ -7,7 +7,7 @@ pub returns-then-damaged : goal.returns-then-damaged
 returns-then-damaged c = adds_damaged _ _ _ (sym c.damaged.ensures ∙ c.if-damaged.true)
 
 pub add_outline-requires : goal.add_outline-requires
-add_outline-requires c = (sym c.damaged.ensures ∙ c.if-damaged.false, c.check-checked.ensures.sound _ c.checked-in-Holds-1.given.1)
+add_outline-requires c = (sym c.damaged.ensures ∙ c.if-damaged.false, c.check-checked.ensures.sound _ c.in-Holds.is)
 
 pub returns-in-Refused : goal.returns-in-Refused
-returns-in-Refused c = adds_refused _ _ _ (sym c.damaged.ensures ∙ c.if-damaged.false) c.checked-1.given.1 c.check-checked.ensures
+returns-in-Refused c = adds_refused _ _ _ (sym c.damaged.ensures ∙ c.if-damaged.false) c.in-Refused.is c.check-checked.ensures

@@ -9,7 +9,7 @@ pub check-checked-requires : goal.check-checked-requires
 check-checked-requires c = (many_path c.args.store.now (search rules), many_own c.args.store.now (search rules))
 
 pub convert_at-requires : goal.convert_at-requires
-convert_at-requires c = (passed c.checked-in-Holds-1.given.1 c.check-checked.ensures, search rules, search rules)
+convert_at-requires c = (passed c.in-Holds.is c.check-checked.ensures, search rules, search rules)
 
 pub returns-in-Refused : goal.returns-in-Refused
-returns-in-Refused c = convert_refused _ c.checked-1.given.1 c.check-checked.ensures
+returns-in-Refused c = convert_refused _ c.in-Refused.is c.check-checked.ensures

@@ -17,16 +17,10 @@ overflow_add-at c = omega (arith, base_small c.requires.2 c.front-base.ensures, 
 
 pub differ_from-requires : goal.differ_from-requires
 differ_from-requires c =
-    let h = some _ c.if-n-eq0.false in record { n_value = (c.requires.0, h, c.requires.1.inside, c.requires.2); unit_long = (
-        (step_unit _ c.step.ensures, start_walk (path_of c.args.path.now) (omega (arith, c.requires.0, some _ c.if-n-eq0.false)) c.vertex.ensures c.new-walk.ensures c.requires.1.inside, c.requires.3, search rules),
-        (second-at c.requires.2 c.front-base.ensures c.old_count-old.ensures, omega (arith, base_small c.requires.2 c.front-base.ensures, c.old_count-old.type_inv), refl, rest_few (path_of c.args.path.now) (omega (arith, c.requires.0, some _ c.if-n-eq0.false)) c.vertex.ensures c.new-walk.ensures c.args.grade c.step.ensures c.args.edition c.requires.1.count),
-      ); at_value =  }
+    let h = some _ c.if-n-eq0.false in record { n_value = (c.requires.0, h, c.requires.1.inside, c.requires.2); unit_long = (step_unit _ c.step.ensures, start_walk (path_of c.args.path.now) (omega (arith, c.requires.0, some _ c.if-n-eq0.false)) c.vertex.ensures c.new-walk.ensures c.requires.1.inside, c.requires.3, search rules); at_value = (second-at c.requires.2 c.front-base.ensures c.old_count-old.ensures, omega (arith, base_small c.requires.2 c.front-base.ensures, c.old_count-old.type_inv), refl, rest_few (path_of c.args.path.now) (omega (arith, c.requires.0, some _ c.if-n-eq0.false)) c.vertex.ensures c.new-walk.ensures c.args.grade c.step.ensures c.args.edition c.requires.1.count) }
 
 pub shape_of-differing : goal.shape_of-differing
-shape_of-differing c = omega (arith, written-length (all_found c.args.grade _ (path_of c.args.path.now) c.args.differing.now _ c.requires.2 c.front-base.ensures c.old_count-old.ensures c.difference-first.ensures refl (omega (arith, c.requires.0, some _ c.if-n-eq0.false)) c.vertex.ensures c.new-walk.ensures c.step.ensures c.differ_from.ensures.1))
+shape_of-differing c = omega (arith, written-length (all_found c.args.grade _ (path_of c.args.path.now) c.args.differing.now _ c.requires.2 c.front-base.ensures c.old_count-old.ensures c.difference-first.ensures refl (omega (arith, c.requires.0, some _ c.if-n-eq0.false)) c.vertex.ensures c.new-walk.ensures c.step.ensures c.differ_from.ensures.found))
 
 pub returns : goal.returns
-returns c = (
-  c.differ_from.ensures.0 ∙ rest_due (path_of c.args.path.now) (omega (arith, c.requires.0, some _ c.if-n-eq0.false)) c.vertex.ensures c.new-walk.ensures c.args.grade c.step.ensures,
-  all_found c.args.grade _ (path_of c.args.path.now) _ _ c.requires.2 c.front-base.ensures c.old_count-old.ensures c.difference-first.ensures refl (omega (arith, c.requires.0, some _ c.if-n-eq0.false)) c.vertex.ensures c.new-walk.ensures c.step.ensures c.differ_from.ensures.1,
-)
+returns c = record { due = c.differ_from.ensures.due ∙ rest_due (path_of c.args.path.now) (omega (arith, c.requires.0, some _ c.if-n-eq0.false)) c.vertex.ensures c.new-walk.ensures c.args.grade c.step.ensures; found = all_found c.args.grade _ (path_of c.args.path.now) _ _ c.requires.2 c.front-base.ensures c.old_count-old.ensures c.difference-first.ensures refl (omega (arith, c.requires.0, some _ c.if-n-eq0.false)) c.vertex.ensures c.new-walk.ensures c.step.ensures c.differ_from.ensures.found }

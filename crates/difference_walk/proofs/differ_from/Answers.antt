@@ -18,10 +18,7 @@ pub old_count-old-requires : goal.old_count-old-requires
 old_count-old-requires c = (c.requires.n_value.3, omega (arith, c.loop-k-test.true))
 
 pub told_step-d-requires : goal.told_step-d-requires
-told_step-d-requires c = (
-  (c.requires.unit_long.0, c.loop-k.invariant.2.around, inside_at (path_of c.args.path.now) c.loop-k.k c.requires.n_value.2 (omega (arith, c.requires.n_value.0, c.loop-k-test.true)) c.vertex-v.ensures, omega (arith, c.requires.unit_long.2, c.loop-k.invariant.1)),
-  differed_room c.loop-k.invariant.2 (omega (arith, c.loop-k.invariant.0, c.requires.n_value.3.few)) c.requires.at_value.3,
-)
+told_step-d-requires c = record { unit_long = (c.requires.unit_long.0, c.loop-k.invariant.2.around, inside_at (path_of c.args.path.now) c.loop-k.k c.requires.n_value.2 (omega (arith, c.requires.n_value.0, c.loop-k-test.true)) c.vertex-v.ensures, omega (arith, c.requires.unit_long.2, c.loop-k.invariant.1)); at_bound = differed_room c.loop-k.invariant.2 (omega (arith, c.loop-k.invariant.0, c.requires.n_value.3.few)) c.requires.at_value.3 }
 
 pub offset_bounds-differing-k : goal.offset_bounds-differing-k
 offset_bounds-differing-k c = omega (arith, c.loop-k-test.true, c.requires.n_value.3.few)
@@ -42,7 +39,7 @@ pub old_count-last-requires : goal.old_count-last-requires
 old_count-last-requires c = (c.requires.n_value.3, omega arith)
 
 pub told_end-e-requires : goal.told_end-e-requires
-told_end-e-requires c =record { unit_long = (c.requires.unit_long.0, c.loop-k.invariant.2.around, omega (arith, c.requires.unit_long.2, c.loop-k.invariant.1)); at_bound = differed_room c.loop-k.invariant.2 (omega (arith, c.loop-k.invariant.0, c.requires.n_value.3.few)) c.requires.at_value.3 }
+told_end-e-requires c = record { unit_long = (c.requires.unit_long.0, c.loop-k.invariant.2.around, omega (arith, c.requires.unit_long.2, c.loop-k.invariant.1)); at_bound = differed_room c.loop-k.invariant.2 (omega (arith, c.loop-k.invariant.0, c.requires.n_value.3.few)) c.requires.at_value.3 }
 
 pub offset_bounds-differing-n : goal.offset_bounds-differing-n
 offset_bounds-differing-n c = omega (arith, c.requires.n_value.3.few)
@@ -57,7 +54,4 @@ pub shape_of-differing : goal.shape_of-differing
 shape_of-differing c = omega (arith, written-length (end_found c.loop-k.invariant.2 (le_antisymm c.loop-k.invariant.0 c.loop-k-test.false) (omega (arith, c.requires.n_value.0, c.loop-k-test.false)) c.old_count-last.ensures c.told_end-e.ensures))
 
 pub returns : goal.returns
-returns c = (
-  end_edges c.loop-k.invariant.2 (le_antisymm c.loop-k.invariant.0 c.loop-k-test.false) (omega (arith, c.requires.n_value.0, c.loop-k-test.false)) c.old_count-last.ensures c.told_end-e.ensures,
-  end_found c.loop-k.invariant.2 (le_antisymm c.loop-k.invariant.0 c.loop-k-test.false) (omega (arith, c.requires.n_value.0, c.loop-k-test.false)) c.old_count-last.ensures c.told_end-e.ensures,
-)
+returns c = record { due = end_edges c.loop-k.invariant.2 (le_antisymm c.loop-k.invariant.0 c.loop-k-test.false) (omega (arith, c.requires.n_value.0, c.loop-k-test.false)) c.old_count-last.ensures c.told_end-e.ensures; found = end_found c.loop-k.invariant.2 (le_antisymm c.loop-k.invariant.0 c.loop-k-test.false) (omega (arith, c.requires.n_value.0, c.loop-k-test.false)) c.old_count-last.ensures c.told_end-e.ensures }

@@ -9,10 +9,10 @@ pub check-checked-requires : goal.check-checked-requires
 check-checked-requires c = (many_path c.args.store.now (search rules), many_own c.args.store.now (search rules))
 
 pub explain_stroke-requires : goal.explain_stroke-requires
-explain_stroke-requires c = (passed c.checked-in-Holds-1.given.1 c.check-checked.ensures, c.requires.2)
+explain_stroke-requires c = (passed c.in-Holds.is c.check-checked.ensures, c.requires.2)
 
 pub returns-in-Refused : goal.returns-in-Refused
-returns-in-Refused c = explains_refused _ c.checked-1.given.1 c.check-checked.ensures
+returns-in-Refused c = explains_refused _ c.in-Refused.is c.check-checked.ensures
 
 pub returns-in-Holds : goal.returns-in-Holds
 returns-in-Holds c = c.explain_stroke.ensures

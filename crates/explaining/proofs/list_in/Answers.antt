@@ -16,4 +16,4 @@ pub list_path-requires : goal.list_path-requires
 list_path-requires c = front_lent c.args.grade c.args.n c.args.path.now (sub-zero (3 * c.args.n)) c.requires.n_in_bounds.1 c.requires.n_in_bounds.2
 
 pub returns : goal.returns
-returns c = lists_done _ _ c.requires.m_value (front_whys c.args.grade c.args.n c.args.path.now (sub-zero (3 * c.args.n))) c.if-out-numbers.false c.list_path.ensures.0
+returns c = lists_done _ _ c.requires.m_value (front_whys c.args.grade c.args.n c.args.path.now (sub-zero (3 * c.args.n))) c.if-out-numbers.false c.list_path.ensures.told

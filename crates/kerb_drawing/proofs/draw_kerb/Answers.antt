@@ -3,7 +3,7 @@ use Rattle.kerb_drawing.proofs.KerbAnswers.{kerb_refused}
 use Rattle.kerb_drawing.proofs.draw_kerb.Goals as goal
 
 pub draw_points-requires : goal.draw_points-requires
-draw_points-requires c = c.check_kerb-checked.ensures.fits _ c.checked-in-Passed-1.given.1
+draw_points-requires c = c.check_kerb-checked.ensures.fits _ c.in-Passed.is
 
 pub returns-in-Refused : goal.returns-in-Refused
-returns-in-Refused c = kerb_refused _ _ _ _ _ _ c.check_kerb-checked.ensures c.checked-1.given.1
+returns-in-Refused c = kerb_refused _ _ _ _ _ _ c.check_kerb-checked.ensures c.in-Refused.is

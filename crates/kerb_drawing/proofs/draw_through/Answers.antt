@@ -23,10 +23,7 @@ pub put_edges-done-requires : goal.put_edges-done-requires
 put_edges-done-requires c =
     let h = c.requires.0 in
     let a = c.args in
-    let e = c.style_of-y.ensures in (
-      (count_told a.points.now a.radius a.join a.closed e h.count, omega (arith, h.count, h.within.count), all_inside a.points.now a.radius a.join a.closed e h.within.inside, style_radius a.radius a.join a.closed h.radius e, h.within.low, h.within.high),
-      (counted_told c.kerb_edges-numbers.ensures, c.if-out-numbers.false),
-    )
+    let e = c.style_of-y.ensures in record { n_value = (count_told a.points.now a.radius a.join a.closed e h.count, omega (arith, h.count, h.within.count), all_inside a.points.now a.radius a.join a.closed e h.within.inside, style_radius a.radius a.join a.closed h.radius e, h.within.low, h.within.high); counted = (counted_told c.kerb_edges-numbers.ensures, c.if-out-numbers.false) }
 
 pub returns : goal.returns
 returns c =

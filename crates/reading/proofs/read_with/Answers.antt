@@ -3,7 +3,7 @@ use Rattle.reading.proofs.ReadAnswers.{reads_refused}
 use Rattle.reading.proofs.read_with.Goals as goal
 
 pub read_path-requires : goal.read_path-requires
-read_path-requires c = c.check-checked.ensures.sound _ c.checked-in-Holds-1.given.1
+read_path-requires c = c.check-checked.ensures.sound _ c.in-Holds.is
 
 pub returns-in-Refused : goal.returns-in-Refused
-returns-in-Refused c = reads_refused _ c.checked-1.given.1 c.check-checked.ensures
+returns-in-Refused c = reads_refused _ c.in-Refused.is c.check-checked.ensures

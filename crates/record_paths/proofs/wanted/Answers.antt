@@ -7,5 +7,5 @@ returns-in-Refused c = sym (c.check_count-checked.ensures.wanted _ c.in-Refused.
 
 pub returns-in-Passed : goal.returns-in-Passed
 returns-in-Passed c =
-    let p = c.check_count-checked.ensures.passed _ c.checked-1.given.1 in
+    let p = c.check_count-checked.ensures.passed _ c.in-Passed.is in
     p.0 ∙ sym p.1

@@ -6,8 +6,8 @@ use Rattle.sehmelir.proofs.drawn.Goals as goal
 
 pub returns-in-Edges : goal.returns-in-Edges
 unfolding reply_of_drawn
-returns-in-Edges c = told (ap reply_of_drawn (sym c.answer-1.given.1)) c.plain.ensures
+returns-in-Edges c = told (ap reply_of_drawn (sym c.in-Edges.is)) c.plain.ensures
 
 pub returns-in-Refused : goal.returns-in-Refused
 unfolding reply_of_drawn
-returns-in-Refused c = told_as (ap reply_of_drawn (sym c.answer-in-Refused-1.given.1)) c.refusal.ensures
+returns-in-Refused c = told_as (ap reply_of_drawn (sym c.in-Refused.is)) c.refusal.ensures

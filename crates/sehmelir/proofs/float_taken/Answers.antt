@@ -8,7 +8,7 @@ use Rattle.sehmelir.proofs.Told.{tells_whole, tells_reason}
 use Rattle.sehmelir.proofs.float_taken.Goals as goal
 
 pub returns-in-Whole : goal.returns-in-Whole
-returns-in-Whole c = tells_whole c.t-1.given.1 refl (to_z-of_z w32 c.t-1.given.0.0 (search (rules, c.known_told-1.given)))
+returns-in-Whole c = tells_whole c.in-Whole.is refl (to_z-of_z w32 c.t-1.given.0.0 (search (rules, c.known_told-1.given)))
 
 pub returns-in-NotANumber : goal.returns-in-NotANumber
 unfolding reason_of whole_in

@@ -5,10 +5,10 @@ use Rattle.sehmelir.proofs.Told.{stroke_told, kerb_told}
 use Rattle.sehmelir.proofs.form_numbers.Goals as goal
 
 pub style_numbers-requires : goal.style_numbers-requires
-style_numbers-requires c = kerb_within c.form-1.given.1 c.requires
+style_numbers-requires c = kerb_within c.in-Kerb.is c.requires
 
 pub returns-in-Stroke : goal.returns-in-Stroke
 returns-in-Stroke c = stroke_told c.in-Stroke.is refl refl refl refl
 
 pub returns-in-Kerb : goal.returns-in-Kerb
-returns-in-Kerb c = kerb_told c.form-1.given.1 c.style_numbers.ensures
+returns-in-Kerb c = kerb_told c.in-Kerb.is c.style_numbers.ensures

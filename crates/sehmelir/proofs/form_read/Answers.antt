@@ -5,7 +5,7 @@ use Rattle.sehmelir.proofs.form_read.Goals as goal
 
 pub returns-in-Vertices : goal.returns-in-Vertices
 unfolding form_of_read
-returns-in-Vertices c = sym (ap form_of_read c.answer-1.given.1)
+returns-in-Vertices c = sym (ap form_of_read c.in-Vertices.is)
 
 pub returns-in-Refused : goal.returns-in-Refused
 unfolding form_of_read

@@ -6,8 +6,8 @@ use Rattle.sehmelir.proofs.imported.Goals as goal
 
 pub returns-in-Vertices : goal.returns-in-Vertices
 unfolding reply_of_imported
-returns-in-Vertices c = told (ap reply_of_imported (sym c.answer-1.given.1)) c.plain.ensures
+returns-in-Vertices c = told (ap reply_of_imported (sym c.in-Vertices.is)) c.plain.ensures
 
 pub returns-in-Refused : goal.returns-in-Refused
 unfolding reply_of_imported
-returns-in-Refused c = told_as (ap reply_of_imported (sym c.answer-in-Refused-1.given.1)) c.refusal.ensures
+returns-in-Refused c = told_as (ap reply_of_imported (sym c.in-Refused.is)) c.refusal.ensures

@@ -6,8 +6,8 @@ use Rattle.sehmelir.proofs.posts_read.Goals as goal
 
 pub returns-in-Posts : goal.returns-in-Posts
 unfolding reply_of_posts
-returns-in-Posts c = told (ap reply_of_posts (sym c.answer-1.given.1)) c.plain.ensures
+returns-in-Posts c = told (ap reply_of_posts (sym c.in-Posts.is)) c.plain.ensures
 
 pub returns-in-Refused : goal.returns-in-Refused
 unfolding reply_of_posts
-returns-in-Refused c = told_as (ap reply_of_posts (sym c.answer-in-Refused-1.given.1)) c.refusal.ensures
+returns-in-Refused c = told_as (ap reply_of_posts (sym c.in-Refused.is)) c.refusal.ensures

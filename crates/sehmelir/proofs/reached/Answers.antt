@@ -6,8 +6,8 @@ use Rattle.sehmelir.proofs.reached.Goals as goal
 
 pub returns-in-To : goal.returns-in-To
 unfolding reply_of_reached
-returns-in-To c = told (ap reply_of_reached (sym c.answer-1.given.1)) c.plain.ensures
+returns-in-To c = told (ap reply_of_reached (sym c.in-To.is)) c.plain.ensures
 
 pub returns-in-Refused : goal.returns-in-Refused
 unfolding reply_of_reached
-returns-in-Refused c = told_as (ap reply_of_reached (sym c.answer-in-Refused-1.given.1)) c.refusal.ensures
+returns-in-Refused c = told_as (ap reply_of_reached (sym c.in-Refused.is)) c.refusal.ensures

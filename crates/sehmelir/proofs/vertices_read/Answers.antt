@@ -8,10 +8,10 @@ pub returns-in-Vertices : goal.returns-in-Vertices
 unfolding reply_of_read grade_of_read
 returns-in-Vertices c =
     graded_as
-    (ap reply_of_read (sym c.answer-1.given.1))
-    (ap grade_of_read (sym c.answer-1.given.1))
+    (ap reply_of_read (sym c.in-Vertices.is))
+    (ap grade_of_read (sym c.in-Vertices.is))
     (record { reply = refl; number = refl; grade = refl })
 
 pub returns-in-Refused : goal.returns-in-Refused
 unfolding reply_of_read grade_of_read
-returns-in-Refused c = graded_as (ap reply_of_read (sym c.answer-in-Refused-1.given.1)) (ap grade_of_read (sym c.answer-in-Refused-1.given.1)) c.refusal.ensures
+returns-in-Refused c = graded_as (ap reply_of_read (sym c.in-Refused.is)) (ap grade_of_read (sym c.in-Refused.is)) c.refusal.ensures

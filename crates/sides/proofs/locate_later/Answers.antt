@@ -8,7 +8,7 @@ pub check-later-requires : goal.check-later-requires
 check-later-requires c = (many_path c.args.after.now (search rules), many_own c.args.after.now (search rules))
 
 pub locate_sound-requires : goal.locate_sound-requires
-locate_sound-requires c = (c.requires.0, c.check-later.ensures.sound _ c.later-in-Holds-1.given.1)
+locate_sound-requires c = (c.requires.0, c.check-later.ensures.sound _ c.in-Holds.is)
 
 pub returns-in-Refused : goal.returns-in-Refused
-returns-in-Refused c = locates_later _ _ _ _ c.requires.0 c.later-1.given.1 c.check-later.ensures
+returns-in-Refused c = locates_later _ _ _ _ c.requires.0 c.in-Refused.is c.check-later.ensures

@@ -8,7 +8,7 @@ pub check-earlier-requires : goal.check-earlier-requires
 check-earlier-requires c = (many_path c.args.before.now (search rules), many_own c.args.before.now (search rules))
 
 pub locate_later-requires : goal.locate_later-requires
-locate_later-requires c = (c.check-earlier.ensures.sound _ c.earlier-in-Holds-1.given.1, search rules, search rules)
+locate_later-requires c = (c.check-earlier.ensures.sound _ c.in-Holds.is, search rules, search rules)
 
 pub returns-in-Refused : goal.returns-in-Refused
-returns-in-Refused c = locates_earlier _ _ _ _ c.earlier-1.given.1 c.check-earlier.ensures
+returns-in-Refused c = locates_earlier _ _ _ _ c.in-Refused.is c.check-earlier.ensures

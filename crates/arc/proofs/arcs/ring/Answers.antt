@@ -23,7 +23,7 @@ square-s-requires c = short_told c.requires.unit_long.2 c.from_to.ensures
 pub circle-n-requires : goal.circle-n-requires
 circle-n-requires c =
     let h = c.requires.unit_long in
-    rw (radius (goal.at.circle-n-requires c).After-root-radius) ((h.0, h.1, ring_radius h.2), room_first _ _ c.requires.room)
+    record { unit_long = rw (radius (goal.at.circle-n-requires c).After-root-radius) (h.0, h.1, ring_radius h.2); room = rw (radius (goal.at.circle-n-requires c).After-root-radius) (room_first _ _ c.requires.room) }
 
 pub edge-requires : goal.edge-requires
 edge-requires c =

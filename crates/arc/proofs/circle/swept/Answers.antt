@@ -27,18 +27,16 @@ kept c =
     (turns_within h.0 h.1 h.2 (about_near h.4 h.1) d.1, d.0, about_near h.3 h.1)
 
 pub fold-requires : goal.fold-requires
-fold-requires c = let s = c.before.before.before in record { turns = kept (goal.at.fold-requires c).Start; room = room_as (turned (goal.at.fold-requires c).Start) c.requires.room }
+fold-requires c = record { turns = kept (goal.at.fold-requires c).Start; room = room_as (turned (goal.at.fold-requires c).Start) c.requires.room }
 
 pub returns-then-pen : goal.returns-then-pen
 returns-then-pen c = lays_as (turned (goal.at.returns-then-pen c).Start) (lays_may c.if-pen.true c.fold.ensures)
 
 pub turns-requires : goal.turns-requires
 turns-requires c =
-    let s = c.before.before.before in
     let h = kept (goal.at.turns-requires c).Start in record { turns = h.0; unit_long = (h.1, h.2); room = room_as (turned (goal.at.turns-requires c).Start) c.requires.room }
 
 pub returns : goal.returns
 returns c =
-    let s = c.before.before.before.before.before in
     let h = kept (goal.at.returns c).Start in
     lays_as (turned (goal.at.returns c).Start) (lays_runs (turns_reach 1536 _ _ _ h.0 h.1 h.2) c.turns.ensures)

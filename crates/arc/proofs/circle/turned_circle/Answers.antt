@@ -2,7 +2,7 @@
 use mathlib.Core.Path.{◌≡◌}
 use mathlib.Core.List.{◌++◌}
 use Prim.Native.Nat.{◌+◌, ◌-◌, ◌^◌}
-use borrow.Author.Tests.{leb-true, not-true}
+use borrow.Author.Tests.{leb-true}
 use native.Mathlib.Omega.{arith}
 use Rattle.runs.specs.Runs.{Runs, put}
 use Rattle.runs.proofs.Laws.{runs_as, room_as, room_first}
@@ -47,29 +47,26 @@ returns-then-radius-le1 c = lays_as (circle_none _ _ (radius_back c.requires.uni
 
 pub swept-n-requires : goal.swept-n-requires
 swept-n-requires c =
-    let h = c.requires.unit_long in
-    let b = c.before in record { unit_long = (h.0, h.1, radius_told_lem h.2, east (goal.at.swept-n-requires c).After-west-w, west (goal.at.swept-n-requires c).After-west-w); unit_long_2 = (eastward_unit, westward_unit, eastward (goal.at.swept-n-requires c).After-west-w, westward (goal.at.swept-n-requires c).After-west-w); room = room_first _ _ (room_as (halves (goal.at.swept-n-requires c).After-west-w) c.requires.room) }
+    let h = c.requires.unit_long in record { unit_long = (h.0, h.1, radius_told_lem h.2, east (goal.at.swept-n-requires c).After-west-w, west (goal.at.swept-n-requires c).After-west-w); unit_long_2 = (eastward_unit, westward_unit, eastward (goal.at.swept-n-requires c).After-west-w, westward (goal.at.swept-n-requires c).After-west-w); room = room_first _ _ (room_as (halves (goal.at.swept-n-requires c).After-west-w) c.requires.room) }
 
 twice : (c : Then-out-at) →
-    let a = (start c.before.before.before.before.before.before).args in
+    let a = c.args in
     let s = c.swept-n in
-    Runs put edge_numbers a.out.now a.at (circle_of a.pen.step a.c a.radius) s.new.0 (s.result + (s.result - a.at))
+    Runs put edge_numbers a.out.now a.at (circle_of a.pen.step a.c a.radius) s.new.out (s.result + (s.result - a.at))
 twice c =
-    let b = ends c in
-    let alike = halves_alike _ _ (bits c.args.radius) c.if-radius-le1.left c.east-e.ensures c.west-w.ensures in
-    runs_as (halves c.before.before.before.before.before.before) (counted_twice _ _ (leb-true _ _ c.if-out-at.true) alike (lays_plain (not-true c.args.pen.folds c.if-not-pen.true) c.swept-n.ensures))
+    let alike = halves_alike _ _ (bits c.args.radius) c.if-radius-le1.false c.east-e.ensures c.west-w.ensures in
+    runs_as (halves c.before.before.before.before.before.before) (counted_twice _ _ c.if-out-at.true alike (lays_plain c.if-not-pen.true c.swept-n.ensures))
 
 pub returns-then-out-at : goal.returns-then-out-at
 returns-then-out-at c =
-    let h = (start (goal.at.returns-then-out-at c).After-west-w).requires.unit_long in
+    let h = c.requires.unit_long in
     lays_runs (circle_reach _ _ _ h.0 h.1 h.2) (twice c)
 
 pub overflow_add-result : goal.overflow_add-result
-overflow_add-result c = omega (arith, (twice c).pos, (start (goal.at.overflow_add-result c).After-west-w).requires.room.fits)
+overflow_add-result c = omega (arith, (twice c).pos, c.requires.room.fits)
 
 pub swept-requires : goal.swept-requires
 swept-requires c =
-    let b = c.before.before.before.before.before.before in
     let h = c.requires.unit_long in record { unit_long = (h.0, h.1, radius_told_lem h.2, west (goal.at.swept-requires c).After-west-w, east (goal.at.swept-requires c).After-west-w); unit_long_2 = (westward_unit, eastward_unit, westward (goal.at.swept-requires c).After-west-w, eastward (goal.at.swept-requires c).After-west-w); room = room_past _ c.swept-n.ensures (room_as (halves (goal.at.swept-requires c).After-west-w) c.requires.room) }
 
 pub returns : goal.returns

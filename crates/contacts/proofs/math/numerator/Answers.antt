@@ -5,15 +5,12 @@ use Rattle.contacts.proofs.math.numerator.Goals as goal
 
 pub difference-requires : goal.difference-requires
 difference-requires c =
-    let s = c.before.before.before in
     (scaled_size _ _ c.ranges.delta c.requires.1 c.scaled-e.ensures, near_back c.requires.0.x, wide_back c.requires.3, near_back c.requires.0.y)
 
 pub sum-requires : goal.sum-requires
 sum-requires c =
-    let s = c.before.before.before.before.before.before in
     (scaled_size _ _ c.ranges.delta c.requires.1 c.scaled-e.ensures, near_back c.requires.0.y, wide_back c.requires.3, near_back c.requires.0.x)
 
 pub returns : goal.returns
 returns c =
-    let s = c.before.before.before.before.before.before.before in
     numerator_back _ _ _ _ c.requires.0 c.ranges.delta c.requires.1 c.requires.3 c.scaled-e.ensures c.difference.ensures c.sum.ensures

@@ -32,5 +32,4 @@ overflow_shl-n c = omega (arith, (room c).high)
 
 pub returns : goal.returns
 returns c =
-    let s = c.before.before.before in
     tangent_back _ _ (omega (arith, c.requires.0)) c.requires.1 c.requires.2 _ (length (goal.at.returns c).After-size-d) c.root.ensures

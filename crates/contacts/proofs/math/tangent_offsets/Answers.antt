@@ -39,7 +39,4 @@ overflow_shl-result c = omega (arith, (facts (goal.at.overflow_shl-result c).Aft
 
 pub returns : goal.returns
 returns c =
-    let k = facts (goal.at.returns c).After-tangent-t in record { left = left_is _ _ c.ranges.delta c.square-sq.ensures c.shift-k.ensures c.tangent-t.ensures k.tangent c.numerator.ensures; right = (
-        right_is _ _ c.ranges.delta c.square-sq.ensures c.shift-k.ensures c.tangent-t.ensures k.tangent c.numerator-2.ensures,
-        divisor_is _ c.square-sq.ensures c.shift-k.ensures k.shifts.divisor,
-      ); divisor =  }
+    let k = facts (goal.at.returns c).After-tangent-t in record { left = left_is _ _ c.ranges.delta c.square-sq.ensures c.shift-k.ensures c.tangent-t.ensures k.tangent c.numerator.ensures; right = right_is _ _ c.ranges.delta c.square-sq.ensures c.shift-k.ensures c.tangent-t.ensures k.tangent c.numerator-2.ensures; divisor = divisor_is _ c.square-sq.ensures c.shift-k.ensures k.shifts.divisor }

@@ -4,20 +4,17 @@ use Rattle.contacts.proofs.sections.covered.Goals as goal
 
 pub covers_circle-requires : goal.covers_circle-requires
 covers_circle-requires c =
-    let s = c.before.before.before.before.before.before.before.before.before in
-    (held_around _ c.last-1.given.1 c.requires.0, c.requires.1)
+    (held_around _ c.in-Held.is c.requires.0, c.requires.1)
 
 pub returns-in-Nothing : goal.returns-in-Nothing
 returns-in-Nothing c = covered_nothing _ _ c.in-Nothing.is
 
 pub returns-then-b-larger : goal.returns-then-b-larger
 returns-then-b-larger c =
-    let l = c.before.before.before.before in
-    covered_as _ _ c.last-1.given.1 c.requires.1
+    covered_as _ _ c.in-Held.is c.requires.1
     c.larger.ensures (record { sfits = c.larger.type_inv }) c.if-b-larger.true c.covers_circle.ensures
 
 pub returns-else-b-larger : goal.returns-else-b-larger
 returns-else-b-larger c =
-    let l = c.before.before.before in
-    covered_not _ _ c.last-1.given.1 c.requires.1
+    covered_not _ _ c.in-Held.is c.requires.1
     c.larger.ensures (record { sfits = c.larger.type_inv }) c.if-b-larger.false

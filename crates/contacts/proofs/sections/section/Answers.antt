@@ -11,9 +11,8 @@ offsets : (c : After-tangent_offsets-offsets) →
     let o = c.tangent_offsets-offsets.result in
     Offset s.a s.b o.left o.right o.divisor
 offsets c =
-    let s = c.before.before.before in
     let e = c.tangent_offsets-offsets.ensures in
-    offsets_are c.requires.0 c.requires.1 c.line.ensures c.delta.ensures e.0 e.1.0 e.1.1
+    offsets_are c.requires.0 c.requires.1 c.line.ensures c.delta.ensures e.left e.right e.divisor
 
 pub contacts-left_side-requires : goal.contacts-left_side-requires
 contacts-left_side-requires c = left_ready c.requires.0 c.requires.1 c.requires.2 (offsets (goal.at.contacts-left_side-requires c).After-tangent_offsets-offsets)
@@ -22,4 +21,4 @@ pub contacts-right_side-requires : goal.contacts-right_side-requires
 contacts-right_side-requires c = right_ready c.requires.0 c.requires.1 c.requires.2 (offsets (goal.at.contacts-right_side-requires c).After-tangent_offsets-offsets)
 
 pub returns : goal.returns
-returns c = section_is _ _ (offsets (goal.at.returns c).After-tangent_offsets-offsets) (contacts_are c.contacts-left_side.ensures.0 c.contacts-left_side.ensures.1) (contacts_are c.contacts-right_side.ensures.0 c.contacts-right_side.ensures.1) c.trend.ensures
+returns c = section_is _ _ (offsets (goal.at.returns c).After-tangent_offsets-offsets) (contacts_are c.contacts-left_side.ensures.edge c.contacts-left_side.ensures.exact) (contacts_are c.contacts-right_side.ensures.edge c.contacts-right_side.ensures.exact) c.trend.ensures

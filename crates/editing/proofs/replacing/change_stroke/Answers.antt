@@ -5,7 +5,7 @@ use Rattle.editing.proofs.StoreRefused.{replace_other}
 use Rattle.editing.proofs.replacing.change_stroke.Goals as goal
 
 pub change_drawn-requires : goal.change_drawn-requires
-change_drawn-requires c = (known c.requires.0 c.form-1.given.1, posts_enough c.requires.0.sound.head c.requires.1, stroke_enough c.requires.0.sound.head c.requires.2)
+change_drawn-requires c = (known c.requires.0 c.in-Stroke.is, posts_enough c.requires.0.sound.head c.requires.1, stroke_enough c.requires.0.sound.head c.requires.2)
 
 pub returns-in-Kerb : goal.returns-in-Kerb
 returns-in-Kerb c = replace_other c.requires.0 c.args.index c.args.v c.in-Kerb.is

@@ -5,7 +5,7 @@ use Rattle.editing.proofs.StoreRefused.{replace_refused}
 use Rattle.editing.proofs.replacing.replace_with.Goals as goal
 
 pub change_stroke-requires : goal.change_stroke-requires
-change_stroke-requires c = (passed c.checked-in-Holds-1.given.1 c.check-checked.ensures, search rules, search rules)
+change_stroke-requires c = (passed c.in-Holds.is c.check-checked.ensures, search rules, search rules)
 
 pub returns-in-Refused : goal.returns-in-Refused
-returns-in-Refused c = replace_refused _ _ c.checked-1.given.1 c.check-checked.ensures
+returns-in-Refused c = replace_refused _ _ c.in-Refused.is c.check-checked.ensures

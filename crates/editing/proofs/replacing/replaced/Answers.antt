@@ -6,8 +6,8 @@ use Rattle.editing.proofs.replacing.replaced.Goals as goal
 
 pub returns-in-Bytes : goal.returns-in-Bytes
 unfolding reply_of_kept reply_of_replaced
-returns-in-Bytes c = sym (ap reply_of_kept c.k-1.given.1)
+returns-in-Bytes c = sym (ap reply_of_kept c.in-Bytes.is)
 
 pub returns-in-Refused : goal.returns-in-Refused
 unfolding reply_of_kept reply_of_replaced
-returns-in-Refused c = sym (ap reply_of_kept c.k-in-Refused-1.given.1)
+returns-in-Refused c = sym (ap reply_of_kept c.in-Refused.is)

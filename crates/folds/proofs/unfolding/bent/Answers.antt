@@ -8,7 +8,7 @@ use Rattle.folds.proofs.unfolding.bent.Goals as goal
 pub half_bow-requires : goal.half_bow-requires
 half_bow-requires c =
     let h = c.requires.1 in
-    (turns_within c.requires.0 h.centre h.radius h.to h.direction, h.from, c.finest.ensures.finest c.if-finest.true, leb-true _ _ c.if-b-le402.true, c.requires.2)
+    (turns_within c.requires.0 h.centre h.radius h.to h.direction, h.from, c.finest.ensures.finest c.if-finest.true, c.if-b-le402.true, c.requires.2)
 
 pub returns-then-b-le402 : goal.returns-then-b-le402
 returns-then-b-le402 c = runs_as (bow_axial _ _ c.requires.1 c.axial.ensures c.if-axial.true) c.half_bow.ensures

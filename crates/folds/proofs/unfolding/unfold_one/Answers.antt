@@ -7,15 +7,15 @@ use Rattle.folds.proofs.unfolding.unfold_one.Goals as goal
 
 pub store-requires : goal.store-requires
 store-requires c =
-    let e = c.f-1.given.1 in record { reach = straight_sound e c.requires.1; room = one_room _ (omega (arith, size_straight e, c.requires.2, c.well_formed.0.0)); at_in_bounds = omega (arith, size_straight e, c.requires.2) }
+    let e = c.in-Straight.is in record { reach = straight_sound e c.requires.1; room = one_room _ (omega (arith, size_straight e, c.requires.2, c.well_formed.0.0)); at_in_bounds = omega (arith, size_straight e, c.requires.2) }
 
 pub bent-requires : goal.bent-requires
 bent-requires c =
-    let e = c.f-in-Bent-1.given.1 in
+    let e = c.in-Bent.is in
     (c.requires.0, bent_sound e c.requires.1, omega (arith, size_bent e, c.requires.2))
 
 pub returns-in-Straight : goal.returns-in-Straight
-returns-in-Straight c = runs_as (straight_edge _ c.f-1.given.1) c.store.ensures
+returns-in-Straight c = runs_as (straight_edge _ c.in-Straight.is) c.store.ensures
 
 pub returns-in-Bent : goal.returns-in-Bent
-returns-in-Bent c = runs_as (bent_edges _ c.f-in-Bent-1.given.1) c.bent.ensures
+returns-in-Bent c = runs_as (bent_edges _ c.in-Bent.is) c.bent.ensures

@@ -5,7 +5,7 @@ use Rattle.kerb.proofs.touring.held.Goals as goal
 
 pub returns-in-Held : goal.returns-in-Held
 unfolding held_of
-returns-in-Held c = ap (λ e. held_of e c.args.s) (sym c.span-1.given.1)
+returns-in-Held c = ap (λ e. held_of e c.args.s) (sym c.in-Held.is)
 
 pub returns-in-Nothing : goal.returns-in-Nothing
 unfolding held_of

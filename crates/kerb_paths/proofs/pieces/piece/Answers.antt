@@ -9,10 +9,7 @@ ahead-b-requires c =
 
 pub step-s-requires : goal.step-s-requires
 step-s-requires c =
-    let h = c.requires.lent in (
-      (h.1, h.0.styled, piece_ready _ _ h.0 _ _ h.2 c.way_count-m.ensures c.point-first.ensures c.ahead-b.ensures),
-      piece_fits _ _ h.0 _ _ h.2 c.way_count-m.ensures c.point-first.ensures c.ahead-b.ensures c.args.pen c.requires.room,
-    )
+    let h = c.requires.lent in record { unit_long = (h.1, h.0.styled, piece_ready _ _ h.0 _ _ h.2 c.way_count-m.ensures c.point-first.ensures c.ahead-b.ensures); room = piece_fits _ _ h.0 _ _ h.2 c.way_count-m.ensures c.point-first.ensures c.ahead-b.ensures c.args.pen c.requires.room }
 
 pub returns : goal.returns
 returns c =

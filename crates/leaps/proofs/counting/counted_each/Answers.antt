@@ -35,7 +35,7 @@ pub past-n-requires : goal.past-n-requires
 past-n-requires c = step_room c.loop-left.invariant.0 _ _ _ (turns_go _ _ _ _ c.loop-left-test.true c.rotated-next.ensures c.stops.ensures c.if-stops.false refl) c.stays.ensures c.requires.room
 
 pub cross-z-requires-in-loop-left : goal.cross-z-requires-in-loop-left
-cross-z-requires-in-loop-left c = let s = c.before.before.before.before.before.before.before.before.before.before in (unit_short (next_unit c.requires.turns.0.step c.loop-left.invariant.1 c.rotated-next.ensures), unit_short c.requires.turns.0.toward)
+cross-z-requires-in-loop-left c = (unit_short (next_unit c.requires.turns.0.step c.loop-left.invariant.1 c.rotated-next.ensures), unit_short c.requires.turns.0.toward)
 
 pub overflow_sub-left : goal.overflow_sub-left
 overflow_sub-left c = omega (arith, c.loop-left-test.true)

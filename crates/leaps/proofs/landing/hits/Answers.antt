@@ -17,8 +17,6 @@ meets-requires-then-meets c =
 
 pub returns-then-meets : goal.returns-then-meets
 returns-then-meets c =
-    let t = c.before.before.before.before.before in
-    let s = t.before.before.before.before.before.before in
     hits_both _ _ c.requires.0 c.requires.1 c.meets.ensures c.if-meets.true c.meets-then-meets.ensures
 
 pub returns : goal.returns

@@ -4,8 +4,6 @@ use Rattle.leaps.proofs.landing.meets.Goals as goal
 
 pub returns-then-coordinate-to : goal.returns-then-coordinate-to
 returns-then-coordinate-to c =
-    let t = c.before.before in
-    let s = t.before.before.before in
     meets_both _ _ _ _ c.requires.0 c.requires.1 c.requires.2 c.ranges.to c.lowest.ensures c.coordinate.type_inv c.coordinate.ensures c.highest.ensures c.coordinate-then-coordinate-to.type_inv c.coordinate-then-coordinate-to.ensures c.if-coordinate-to.true
 
 pub returns : goal.returns

@@ -12,7 +12,6 @@ passes-requires c =
 
 pub returns-then-passes : goal.returns-then-passes
 returns-then-passes c =
-    let s = c.before.before.before.before.before.before in
     misses_x _ _ c.requires.0 c.requires.1 c.passes.ensures c.if-passes.true
 
 pub passes-requires-2 : goal.passes-requires-2
@@ -22,5 +21,4 @@ passes-requires-2 c =
 
 pub returns : goal.returns
 returns c =
-    let s = c.before.before.before.before.before.before.before.before.before.before.before in
     misses_y _ _ c.requires.0 c.requires.1 c.passes-2.ensures

@@ -4,10 +4,8 @@ use Rattle.leaps.proofs.landing.passes.Goals as goal
 
 pub returns-then-to-coordinate : goal.returns-then-to-coordinate
 returns-then-to-coordinate c =
-    let s = c.before.before.before in
     passes_low _ _ _ _ c.requires.0 c.requires.1 c.requires.2 c.ranges.to c.lowest.ensures c.coordinate.type_inv c.coordinate.ensures c.if-to-coordinate.true
 
 pub returns : goal.returns
 returns c =
-    let s = c.before.before.before.before.before in
     passes_high _ _ _ _ c.requires.0 c.requires.1 c.requires.2 c.ranges.to c.highest.ensures c.coordinate-2.type_inv c.coordinate-2.ensures

@@ -25,10 +25,7 @@ pub loop-s-init : goal.loop-s-init
 loop-s-init c = leads_same c.requires.1 (omega arith) (omega arith)
 
 pub leap_on-n-requires : goal.leap_on-n-requires
-leap_on-n-requires c = (
-  (c.requires.0, leaps_eight _ c.requires.0.step c.rotated-two.ensures c.rotated-four.ensures c.rotated-eight.ensures, c.sway-far.ensures, c.requires.2),
-  (c.loop-s.invariant.unit, omega (arith, c.loop-s-test.true), c.loop-s.invariant.off),
-)
+leap_on-n-requires c = record { turns = (c.requires.0, leaps_eight _ c.requires.0.step c.rotated-two.ensures c.rotated-four.ensures c.rotated-eight.ensures, c.sway-far.ensures, c.requires.2); unit_long = (c.loop-s.invariant.unit, omega (arith, c.loop-s-test.true), c.loop-s.invariant.off) }
 
 pub returns-then-n-s : goal.returns-then-n-s
 returns-then-n-s c = c.loop-s.invariant.comes _ c.requires.1 (comes_start _ _ _ c.requires.1)

@@ -15,7 +15,6 @@ cross-requires c = (unit_short c.requires.unit_long.0, unit_short c.requires.tur
 
 pub stops-requires : goal.stops-requires
 stops-requires c =
-    let s = c.before.before.before in
     (c.requires.unit_long.0, next_unit c.requires.turns.step c.requires.unit_long.0 c.rotated-next.ensures, c.requires.turns.toward, told c.cross.type_inv c.cross.ensures)
 
 pub edge-requires : goal.edge-requires

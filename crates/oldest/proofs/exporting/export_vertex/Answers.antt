@@ -15,22 +15,22 @@ pub returns-in_default-wy : goal.returns-in_default-wy
 returns-in_default-wy c =
     rw (three_at coordinate_out width_out (pos 0) c.args.numbers.now c.args.at c.requires.0)
     (stops_second _ _ _
-    (coordinate_some (to_z-of_z w32 _ (record { sfits = search rules })) c.coordinate_back-wx.ensures c.wx-1.given.1)
+    (coordinate_some (to_z-of_z w32 _ (record { sfits = search rules })) c.coordinate_back-wx.ensures c.in-Exact.is)
     (coordinate_not (to_z-of_z w32 _ (record { sfits = search rules })) c.coordinate_back-wy.ensures c.in_default-wy.is))
 
 pub returns-in_default-ww : goal.returns-in_default-ww
 returns-in_default-ww c =
     rw (three_at coordinate_out width_out (pos 0) c.args.numbers.now c.args.at c.requires.0)
     (stops_third _ _ _
-    (coordinate_some (to_z-of_z w32 _ (record { sfits = search rules })) c.coordinate_back-wx.ensures c.wx-1.given.1)
-    (coordinate_some (to_z-of_z w32 _ (record { sfits = search rules })) c.coordinate_back-wy.ensures c.wy-1.given.1)
+    (coordinate_some (to_z-of_z w32 _ (record { sfits = search rules })) c.coordinate_back-wx.ensures c.in-Exact.is)
+    (coordinate_some (to_z-of_z w32 _ (record { sfits = search rules })) c.coordinate_back-wy.ensures c.in-Exact-wy.is)
     (width_not (to_z-of_z w32 _ (record { sfits = search rules })) c.width_back-ww.ensures c.in_default-ww.is))
 
 pub returns : goal.returns
 returns c =
     rw (three_at coordinate_out width_out (pos 0) c.args.numbers.now c.args.at c.requires.0)
     (takes_three _ _ _
-    (coordinate_some (to_z-of_z w32 _ (record { sfits = search rules })) c.coordinate_back-wx.ensures c.wx-1.given.1)
-    (coordinate_some (to_z-of_z w32 _ (record { sfits = search rules })) c.coordinate_back-wy.ensures c.wy-1.given.1)
-    (width_some (to_z-of_z w32 _ (record { sfits = search rules })) c.width_back-ww.ensures c.ww-1.given.1)
+    (coordinate_some (to_z-of_z w32 _ (record { sfits = search rules })) c.coordinate_back-wx.ensures c.in-Exact.is)
+    (coordinate_some (to_z-of_z w32 _ (record { sfits = search rules })) c.coordinate_back-wy.ensures c.in-Exact-wy.is)
+    (width_some (to_z-of_z w32 _ (record { sfits = search rules })) c.width_back-ww.ensures c.in-Exact-ww.is)
     c.put_old.ensures)

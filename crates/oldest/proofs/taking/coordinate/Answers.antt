@@ -5,6 +5,7 @@ use mir.ValLaws.{to_z-of_z}
 use Rattle.oldest.specs.Taken.{whole_within, whole_in}
 use Rattle.oldest.specs.declared.Taken.TheVariants.{Whole}
 use Rattle.oldest.proofs.Reasons.{not_whole, coordinate_none, too_low, too_high, coordinate_found}
+use Rattle.oldest.proofs.taking.coordinate.Goals.{In-Whole}
 use Rattle.oldest.proofs.taking.coordinate.Goals as goal
 
 pub returns-in_default : goal.returns-in_default
@@ -27,12 +28,11 @@ module _ (c : tie.After-known-told) where
   told = to_z-of_z w32 n (search (rules, c.known-told.given))
 
 pub returns-then-n-ltminus268435456 : goal.returns-then-n-ltminus268435456
-returns-then-n-ltminus268435456 c = let d = c.before in too_low (x d) (n d) (found d) (rw (told d) at c.if-n-ltminus268435456.true)
+returns-then-n-ltminus268435456 c = too_low (x (goal.at.returns-then-n-ltminus268435456 c).In-Whole) (n (goal.at.returns-then-n-ltminus268435456 c).In-Whole) (found (goal.at.returns-then-n-ltminus268435456 c).In-Whole) (rw (told (goal.at.returns-then-n-ltminus268435456 c).In-Whole) at c.if-n-ltminus268435456.true)
 
 pub returns-then-n-gt268435456 : goal.returns-then-n-gt268435456
-returns-then-n-gt268435456 c = let d = c.before.before in too_high (x d) (n d) (found d) (rw (told d) at c.if-n-gt268435456.true)
+returns-then-n-gt268435456 c = too_high (x (goal.at.returns-then-n-gt268435456 c).In-Whole) (n (goal.at.returns-then-n-gt268435456 c).In-Whole) (found (goal.at.returns-then-n-gt268435456 c).In-Whole) (rw (told (goal.at.returns-then-n-gt268435456 c).In-Whole) at c.if-n-gt268435456.true)
 
 pub returns : goal.returns
 returns c =
-    let d = c.before.before in
-    sym (found d) ∙ coordinate_found (x d) (n d) (found d) (rw (told d) at c.if-n-ltminus268435456.false) (rw (told d) at c.if-n-gt268435456.false)
+    sym (found (goal.at.returns c).In-Whole) ∙ coordinate_found (x (goal.at.returns c).In-Whole) (n (goal.at.returns c).In-Whole) (found (goal.at.returns c).In-Whole) (rw (told (goal.at.returns c).In-Whole) at c.if-n-ltminus268435456.false) (rw (told (goal.at.returns c).In-Whole) at c.if-n-gt268435456.false)

@@ -9,6 +9,7 @@ use Rattle.oldest.specs.declared.Taken.TheVariants.{Whole, TooLarge}
 use Rattle.oldest.specs.Theorems.{Fits32}
 use Rattle.oldest.proofs.Tests.{nan_is, infinite_is, Finite, finite, no_nan, no_infinite, above, under, within, asks, truncated, in_i32, comes_back}
 use Rattle.oldest.proofs.Reasons.{first_nan, first_infinite, first_fraction, first_large, no_reason}
+use Rattle.oldest.proofs.taking.whole.Goals.{After-nearest_i32_to_f32, After-truncating_f32_to_i64-n, Else-x-3, Else-x-5}
 use Rattle.oldest.proofs.taking.whole.Goals as goal
 
 pub returns-then-x : goal.returns-then-x
@@ -36,11 +37,11 @@ module _ (c : tie.Else3) where
 
 pub returns-then-x-4 : goal.returns-then-x-4
 unfolding of_bits neg div
-returns-then-x-4 c = beyond c.before (above _ (number c.before) c.well_formed.0.1 c.if-x-4.true)
+returns-then-x-4 c = beyond (goal.at.returns-then-x-4 c).Else-x-3 (above _ (number (goal.at.returns-then-x-4 c).Else-x-3) c.well_formed.0.1 c.if-x-4.true)
 
 pub returns-then-x-5 : goal.returns-then-x-5
 unfolding of_bits neg div
-returns-then-x-5 c = beyond c.before.before (under _ (number c.before.before) c.well_formed.0.1 c.if-x-5.true)
+returns-then-x-5 c = beyond (goal.at.returns-then-x-5 c).Else-x-3 (under _ (number (goal.at.returns-then-x-5 c).Else-x-3) c.well_formed.0.1 c.if-x-5.true)
 
 -- past the next two it is no larger than a width
 module _ (c : tie.Else5) where
@@ -86,12 +87,10 @@ module _ (c : tie.After-nearest-i32-to-f32) where
 pub returns-then-nearest_i32_to_f32-x : goal.returns-then-nearest_i32_to_f32-x
 unfolding whole_within
 returns-then-nearest_i32_to_f32-x c =
-    let d = c.before.before.before in
-    first_fraction _ (x d) _ (no_nan _ (finite_x d)) (no_infinite _ (finite_x d)) (sym (fraction c.before) ∙ c.if-nearest_i32_to_f32-x.true)
+    first_fraction _ (x (goal.at.returns-then-nearest_i32_to_f32-x c).Else-x-5) _ (no_nan _ (finite_x (goal.at.returns-then-nearest_i32_to_f32-x c).Else-x-5)) (no_infinite _ (finite_x (goal.at.returns-then-nearest_i32_to_f32-x c).Else-x-5)) (sym (fraction (goal.at.returns-then-nearest_i32_to_f32-x c).After-nearest_i32_to_f32) ∙ c.if-nearest_i32_to_f32-x.true)
 
 pub returns : goal.returns
 unfolding whole_within
 returns c =
-    let d = c.before.before.before in
-    ap Whole (cut c.before.before)
-    ∙ no_reason _ (x d) _ (record { number = no_nan _ (finite_x d); finite = no_infinite _ (finite_x d); whole = sym (fraction c.before) ∙ c.if-nearest_i32_to_f32-x.false; within = small d })
+    ap Whole (cut (goal.at.returns c).After-truncating_f32_to_i64-n)
+    ∙ no_reason _ (x (goal.at.returns c).Else-x-5) _ (record { number = no_nan _ (finite_x (goal.at.returns c).Else-x-5); finite = no_infinite _ (finite_x (goal.at.returns c).Else-x-5); whole = sym (fraction (goal.at.returns c).After-nearest_i32_to_f32) ∙ c.if-nearest_i32_to_f32-x.false; within = small (goal.at.returns c).Else-x-5 })

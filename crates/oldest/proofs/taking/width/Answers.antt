@@ -6,6 +6,7 @@ use mir.ValLaws.{to_z-of_z}
 use Rattle.oldest.specs.Taken.{whole_within, whole_in}
 use Rattle.oldest.specs.declared.Taken.TheVariants.{Whole}
 use Rattle.oldest.proofs.Reasons.{not_whole, width_none, width_negative, width_odd, width_even, quotient_fits}
+use Rattle.oldest.proofs.taking.width.Goals.{In-Whole}
 use Rattle.oldest.proofs.taking.width.Goals as goal
 
 pub returns-in_default : goal.returns-in_default
@@ -34,17 +35,16 @@ pub nonzero_rem-odd : goal.nonzero_rem-odd
 nonzero_rem-odd c = (lit< tt, rw (told c) (quotient_fits (n c) _ (fits_n c)))
 
 pub returns-then-n-lt0 : goal.returns-then-n-lt0
-returns-then-n-lt0 c = let d = c.before in width_negative (x d) (n d) (found d) (rw (told d) at c.if-n-lt0.true)
+returns-then-n-lt0 c = width_negative (x (goal.at.returns-then-n-lt0 c).In-Whole) (n (goal.at.returns-then-n-lt0 c).In-Whole) (found (goal.at.returns-then-n-lt0 c).In-Whole) (rw (told (goal.at.returns-then-n-lt0 c).In-Whole) at c.if-n-lt0.true)
 
 pub returns-then-odd-ne0 : goal.returns-then-odd-ne0
-returns-then-odd-ne0 c = let d = c.before.before in width_odd (x d) (n d) (found d) (rw (told d) at c.if-n-lt0.false) (rw (told d) at c.if-odd-ne0.true)
+returns-then-odd-ne0 c = width_odd (x (goal.at.returns-then-odd-ne0 c).In-Whole) (n (goal.at.returns-then-odd-ne0 c).In-Whole) (found (goal.at.returns-then-odd-ne0 c).In-Whole) (rw (told (goal.at.returns-then-odd-ne0 c).In-Whole) at c.if-n-lt0.false) (rw (told (goal.at.returns-then-odd-ne0 c).In-Whole) at c.if-odd-ne0.true)
 
 pub nonzero_div-result : goal.nonzero_div-result
-nonzero_div-result c = let d = c.before.before in (lit< tt, rw (told d) (quotient_fits (n d) _ (fits_n d)))
+nonzero_div-result c = (lit< tt, rw (told (goal.at.nonzero_div-result c).In-Whole) (quotient_fits (n (goal.at.nonzero_div-result c).In-Whole) _ (fits_n (goal.at.nonzero_div-result c).In-Whole)))
 
 pub returns : goal.returns
 returns c =
-    let d = c.before.before in
-    rw (told d)
-    (ap Whole (to_z-of_z w32 (quot_z (n d) (pos 2)) (quotient_fits (n d) 2 (fits_n d)))
-    ∙ width_even (x d) (n d) (found d) (rw (told d) at c.if-n-lt0.false) (rw (told d) at c.if-odd-ne0.false))
+    rw (told (goal.at.returns c).In-Whole)
+    (ap Whole (to_z-of_z w32 (quot_z (n (goal.at.returns c).In-Whole) (pos 2)) (quotient_fits (n (goal.at.returns c).In-Whole) 2 (fits_n (goal.at.returns c).In-Whole)))
+    ∙ width_even (x (goal.at.returns c).In-Whole) (n (goal.at.returns c).In-Whole) (found (goal.at.returns c).In-Whole) (rw (told (goal.at.returns c).In-Whole) at c.if-n-lt0.false) (rw (told (goal.at.returns c).In-Whole) at c.if-odd-ne0.false))

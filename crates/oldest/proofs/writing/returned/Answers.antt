@@ -18,14 +18,12 @@ fits_back c = search (rules, c.known_told-1.given)
 
 pub returns-then-back-n : goal.returns-then-back-n
 returns-then-back-n c =
-    let s = c.before.before.before.before in
     let k = c.t-1.given.0.0 in
-    same_back c.args.n c.args.x c.args.t c.t-1.given.1
+    same_back c.args.n c.args.x c.args.t c.in-Whole.is
     (sym (to_z-of_z w32 k (fits_back (goal.at.returns-then-back-n c).In-Whole)) ∙ ap (to_z w32) c.if-back-n.true ∙ to_z-of_z w32 c.args.n c.ranges.n)
 
 pub returns : goal.returns
 returns c =
-    let s = c.before.before.before.before in
     let k = c.t-1.given.0.0 in
     ap NotExact (to_z-of_z w32 c.args.n c.ranges.n)
-    ∙ other_back c.args.n c.args.x c.args.t c.t-1.given.1 (λ (e : k ≡ c.args.n). c.if-back-n.false (ap (of_z w32) e))
+    ∙ other_back c.args.n c.args.x c.args.t c.in-Whole.is (λ (e : k ≡ c.args.n). c.if-back-n.false (ap (of_z w32) e))

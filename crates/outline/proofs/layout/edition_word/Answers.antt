@@ -4,4 +4,4 @@ use Rattle.outline.specs.Layout.{edition_word}
 use Rattle.outline.proofs.layout.edition_word.Goals as goal
 
 pub returns-in-Stroke : goal.returns-in-Stroke
-returns-in-Stroke c = c.edition_number.ensures ∙ sym (ap edition_word c.form-1.given.1)
+returns-in-Stroke c = c.edition_number.ensures ∙ sym (ap edition_word c.in-Stroke.is)

@@ -4,10 +4,10 @@ use Rattle.outline.proofs.FormLengths.{front_stroke, front_kerb}
 use Rattle.outline.proofs.layout.front.Goals as goal
 
 pub overflow_mul-result : goal.overflow_mul-result
-overflow_mul-result c = omega (arith, c.requires, front_stroke c.args.n _ c.form-1.given.1 c.entry_bytes.ensures)
+overflow_mul-result c = omega (arith, c.requires, front_stroke c.args.n _ c.in-Stroke.is c.entry_bytes.ensures)
 
 pub overflow_add-result : goal.overflow_add-result
-overflow_add-result c = omega (arith, c.requires, front_stroke c.args.n _ c.form-1.given.1 c.entry_bytes.ensures)
+overflow_add-result c = omega (arith, c.requires, front_stroke c.args.n _ c.in-Stroke.is c.entry_bytes.ensures)
 
 pub overflow_mul-result-in-Kerb : goal.overflow_mul-result-in-Kerb
 overflow_mul-result-in-Kerb c = omega (arith, c.requires, front_kerb c.args.n c.in-Kerb.is)
@@ -16,7 +16,7 @@ pub overflow_add-result-in-Kerb : goal.overflow_add-result-in-Kerb
 overflow_add-result-in-Kerb c = omega (arith, c.requires, front_kerb c.args.n c.in-Kerb.is)
 
 pub returns-in-Stroke : goal.returns-in-Stroke
-returns-in-Stroke c = omega (arith, front_stroke c.args.n _ c.form-1.given.1 c.entry_bytes.ensures)
+returns-in-Stroke c = omega (arith, front_stroke c.args.n _ c.in-Stroke.is c.entry_bytes.ensures)
 
 pub returns-in-Kerb : goal.returns-in-Kerb
 returns-in-Kerb c = omega (arith, front_kerb c.args.n c.in-Kerb.is)

@@ -4,10 +4,10 @@ use Rattle.checking.proofs.KnownStore.{passed}
 use Rattle.reaching.proofs.reach.reach_with.Goals as goal
 
 pub reach_stroke-requires : goal.reach_stroke-requires
-reach_stroke-requires c = passed c.checked-in-Holds-1.given.1 c.check-checked.ensures
+reach_stroke-requires c = passed c.in-Holds.is c.check-checked.ensures
 
 pub returns-in-Refused : goal.returns-in-Refused
-returns-in-Refused c = reach_refused _ c.checked-1.given.1 c.check-checked.ensures
+returns-in-Refused c = reach_refused _ c.in-Refused.is c.check-checked.ensures
 
 pub returns-in-Holds : goal.returns-in-Holds
 returns-in-Holds c = c.reach_stroke.ensures

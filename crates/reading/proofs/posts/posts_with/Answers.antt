@@ -3,7 +3,7 @@ use Rattle.reading.proofs.PostsAnswers.{posts_refused}
 use Rattle.reading.proofs.posts.posts_with.Goals as goal
 
 pub stroke_posts-requires : goal.stroke_posts-requires
-stroke_posts-requires c = c.check-checked.ensures.sound _ c.checked-in-Holds-1.given.1
+stroke_posts-requires c = c.check-checked.ensures.sound _ c.in-Holds.is
 
 pub returns-in-Refused : goal.returns-in-Refused
-returns-in-Refused c = posts_refused _ c.checked-1.given.1 c.check-checked.ensures
+returns-in-Refused c = posts_refused _ c.in-Refused.is c.check-checked.ensures

@@ -3,7 +3,7 @@ use Rattle.reading.proofs.PostsAnswers.{posts_other}
 use Rattle.reading.proofs.posts.stroke_posts.Goals as goal
 
 pub read_posts-requires : goal.read_posts-requires
-read_posts-requires c = (c.requires, c.form-1.given.1)
+read_posts-requires c = (c.requires, c.in-Stroke.is)
 
 pub returns-in-Kerb : goal.returns-in-Kerb
 returns-in-Kerb c = posts_other _ c.requires c.in-Kerb.is

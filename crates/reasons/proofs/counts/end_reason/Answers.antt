@@ -5,7 +5,7 @@ use Rattle.reasons.proofs.counts.end_reason.Goals as goal
 
 pub returns-in-Held : goal.returns-in-Held
 unfolding end_reason
-returns-in-Held c = ap end_reason (sym c.last-1.given.1)
+returns-in-Held c = ap end_reason (sym c.in-Held.is)
 
 pub returns-in-Nothing : goal.returns-in-Nothing
 unfolding end_reason

@@ -6,23 +6,23 @@ use Rattle.replies.proofs.refusals.code.Goals as goal
 
 pub returns-in-Uneven : goal.returns-in-Uneven
 unfolding refusal_of
-returns-in-Uneven c = coded_told (ap refusal_of (sym c.r-1.given.1)) c.coded.ensures
+returns-in-Uneven c = coded_told (ap refusal_of (sym c.in-Uneven.is)) c.coded.ensures
 
 pub returns-in-TooMany : goal.returns-in-TooMany
 unfolding refusal_of
-returns-in-TooMany c = coded_told (ap refusal_of (sym c.r-in-TooMany-1.given.1)) c.coded-in-TooMany.ensures
+returns-in-TooMany c = coded_told (ap refusal_of (sym c.in-TooMany.is)) c.coded-in-TooMany.ensures
 
 pub returns-in-Grade : goal.returns-in-Grade
 unfolding refusal_of
-returns-in-Grade c = coded_told (ap refusal_of (sym c.r-in-Grade-1.given.1)) c.coded-in-Grade.ensures
+returns-in-Grade c = coded_told (ap refusal_of (sym c.in-Grade.is)) c.coded-in-Grade.ensures
 
 pub returns-in-Outside : goal.returns-in-Outside
 unfolding refusal_of
-returns-in-Outside c = coded_told (ap refusal_of (sym c.r-in-Outside-1.given.1)) c.coded-in-Outside.ensures
+returns-in-Outside c = coded_told (ap refusal_of (sym c.in-Outside.is)) c.coded-in-Outside.ensures
 
 pub returns-in-NoRoom : goal.returns-in-NoRoom
 unfolding refusal_of
-returns-in-NoRoom c = coded_told (ap refusal_of (sym c.r-in-NoRoom-1.given.1)) c.coded-in-NoRoom.ensures
+returns-in-NoRoom c = coded_told (ap refusal_of (sym c.in-NoRoom.is)) c.coded-in-NoRoom.ensures
 
 pub returns-in-NotOutline : goal.returns-in-NotOutline
 unfolding refusal_of
@@ -30,31 +30,31 @@ returns-in-NotOutline c = coded_told (ap refusal_of (sym c.in-NotOutline.is)) c.
 
 pub returns-in-Kind : goal.returns-in-Kind
 unfolding refusal_of
-returns-in-Kind c = coded_told (ap refusal_of (sym c.r-in-Kind-1.given.1)) c.coded-in-Kind.ensures
+returns-in-Kind c = coded_told (ap refusal_of (sym c.in-Kind.is)) c.coded-in-Kind.ensures
 
 pub returns-in-NotSound : goal.returns-in-NotSound
 unfolding refusal_of
-returns-in-NotSound c = coded_told (ap refusal_of (sym c.r-in-NotSound-1.given.1)) c.coded-in-NotSound.ensures
+returns-in-NotSound c = coded_told (ap refusal_of (sym c.in-NotSound.is)) c.coded-in-NotSound.ensures
 
 pub returns-in-NoVertex : goal.returns-in-NoVertex
 unfolding refusal_of
-returns-in-NoVertex c = coded_told (ap refusal_of (sym c.r-in-NoVertex-1.given.1)) c.coded-in-NoVertex.ensures
+returns-in-NoVertex c = coded_told (ap refusal_of (sym c.in-NoVertex.is)) c.coded-in-NoVertex.ensures
 
 pub returns-in-NoEdge : goal.returns-in-NoEdge
 unfolding refusal_of
-returns-in-NoEdge c = coded_told (ap refusal_of (sym c.r-in-NoEdge-1.given.1)) c.coded-in-NoEdge.ensures
+returns-in-NoEdge c = coded_told (ap refusal_of (sym c.in-NoEdge.is)) c.coded-in-NoEdge.ensures
 
 pub returns-in-StyleWord : goal.returns-in-StyleWord
 unfolding refusal_of
-returns-in-StyleWord c = coded_told (ap refusal_of (sym c.r-in-StyleWord-1.given.1)) c.coded-in-StyleWord.ensures
+returns-in-StyleWord c = coded_told (ap refusal_of (sym c.in-StyleWord.is)) c.coded-in-StyleWord.ensures
 
 pub returns-in-OtherKind : goal.returns-in-OtherKind
 unfolding refusal_of
-returns-in-OtherKind c = coded_told (ap refusal_of (sym c.r-in-OtherKind-1.given.1)) c.coded-in-OtherKind.ensures
+returns-in-OtherKind c = coded_told (ap refusal_of (sym c.in-OtherKind.is)) c.coded-in-OtherKind.ensures
 
 pub returns-in-NotTaken : goal.returns-in-NotTaken
 unfolding refusal_of
-returns-in-NotTaken c = coded_told (ap refusal_of (sym c.r-in-NotTaken-1.given.1)) c.coded-in-NotTaken.ensures
+returns-in-NotTaken c = coded_told (ap refusal_of (sym c.in-NotTaken.is)) c.coded-in-NotTaken.ensures
 
 pub returns-in-Damaged : goal.returns-in-Damaged
 unfolding refusal_of
@@ -62,20 +62,20 @@ returns-in-Damaged c = coded_told (ap refusal_of (sym c.in-Damaged.is)) c.coded-
 
 pub returns-in-KeyThere : goal.returns-in-KeyThere
 unfolding refusal_of
-returns-in-KeyThere c = coded_told (ap refusal_of (sym c.r-in-KeyThere-1.given.1)) c.coded-in-KeyThere.ensures
+returns-in-KeyThere c = coded_told (ap refusal_of (sym c.in-KeyThere.is)) c.coded-in-KeyThere.ensures
 
 pub returns-in-KeyMissing : goal.returns-in-KeyMissing
 unfolding refusal_of
-returns-in-KeyMissing c = coded_told (ap refusal_of (sym c.r-in-KeyMissing-1.given.1)) c.coded-in-KeyMissing.ensures
+returns-in-KeyMissing c = coded_told (ap refusal_of (sym c.in-KeyMissing.is)) c.coded-in-KeyMissing.ensures
 
 pub returns-in-TableFull : goal.returns-in-TableFull
 unfolding refusal_of
-returns-in-TableFull c = coded_told (ap refusal_of (sym c.r-in-TableFull-1.given.1)) c.coded-in-TableFull.ensures
+returns-in-TableFull c = coded_told (ap refusal_of (sym c.in-TableFull.is)) c.coded-in-TableFull.ensures
 
 pub returns-in-WithoutEdges : goal.returns-in-WithoutEdges
 unfolding refusal_of
-returns-in-WithoutEdges c = coded_told (ap refusal_of (sym c.r-in-WithoutEdges-1.given.1)) c.coded-in-WithoutEdges.ensures
+returns-in-WithoutEdges c = coded_told (ap refusal_of (sym c.in-WithoutEdges.is)) c.coded-in-WithoutEdges.ensures
 
 pub returns-in-NoListRoom : goal.returns-in-NoListRoom
 unfolding refusal_of
-returns-in-NoListRoom c = coded_told (ap refusal_of (sym c.r-in-NoListRoom-1.given.1)) c.coded-in-NoListRoom.ensures
+returns-in-NoListRoom c = coded_told (ap refusal_of (sym c.in-NoListRoom.is)) c.coded-in-NoListRoom.ensures

@@ -21,10 +21,10 @@ pub overflow_add-end : goal.overflow_add-end
 overflow_add-end c = omega (arith, c.requires.front_fits.0.fronted.few)
 
 pub slice_bounds-salvage_found-end : goal.slice_bounds-salvage_found-end
-slice_bounds-salvage_found-end c = omega (arith, c.requires.front_fits.0.fronted.few, c.requires.in_bounds.1, written-length c.differences-m.ensures.1)
+slice_bounds-salvage_found-end c = omega (arith, c.requires.front_fits.0.fronted.few, c.requires.in_bounds.1, written-length c.differences-m.ensures.found)
 
 pub salvage_found-requires : goal.salvage_found-requires
-salvage_found-requires c = record { n_value = (count_is c.requires.front_fits.0 c.requires.front_fits.1, within_is c.requires.front_fits.0 c.requires.front_fits.1 c.first_outside-bad.ensures c.if-bad-n.false, search rules); m_value = (c.differences-m.ensures.0, omega (arith, c.requires.front_fits.0.fronted.few, ap length (found_front c.args.f.n c.differences-m.ensures.1 (omega (arith, c.requires.in_bounds.1, c.requires.front_fits.0.fronted.few)) refl), singles_count c.differences-m.ensures.1)) }
+salvage_found-requires c = record { n_value = (count_is c.requires.front_fits.0 c.requires.front_fits.1, within_is c.requires.front_fits.0 c.requires.front_fits.1 c.first_outside-bad.ensures c.if-bad-n.false, search rules); m_value = (c.differences-m.ensures.due, omega (arith, c.requires.front_fits.0.fronted.few, ap length (found_front c.args.f.n c.differences-m.ensures.found (omega (arith, c.requires.in_bounds.1, c.requires.front_fits.0.fronted.few)) refl), singles_count c.differences-m.ensures.found)) }
 
 pub returns : goal.returns
-returns c = past_given c.requires.front_fits.0 c.requires.front_fits.1 c.first_outside-bad.ensures c.if-bad-n.false c.requires.front_fits.2 (found_front c.args.f.n c.differences-m.ensures.1 (omega (arith, c.requires.in_bounds.1, c.requires.front_fits.0.fronted.few)) refl) c.salvage_found.ensures
+returns c = past_given c.requires.front_fits.0 c.requires.front_fits.1 c.first_outside-bad.ensures c.if-bad-n.false c.requires.front_fits.2 (found_front c.args.f.n c.differences-m.ensures.found (omega (arith, c.requires.in_bounds.1, c.requires.front_fits.0.fronted.few)) refl) c.salvage_found.ensures

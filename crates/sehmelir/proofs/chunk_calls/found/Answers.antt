@@ -3,7 +3,7 @@ use Rattle.sehmelir.proofs.ChunkTold.{part_found, part_refused}
 use Rattle.sehmelir.proofs.chunk_calls.found.Goals as goal
 
 pub returns-in-Part : goal.returns-in-Part
-returns-in-Part c = part_found c.answer-1.given.1 c.part_at.ensures
+returns-in-Part c = part_found c.in-Part.is c.part_at.ensures
 
 pub returns-in-Refused : goal.returns-in-Refused
-returns-in-Refused c = part_refused c.answer-in-Refused-1.given.1 c.refused_part.ensures
+returns-in-Refused c = part_refused c.in-Refused.is c.refused_part.ensures

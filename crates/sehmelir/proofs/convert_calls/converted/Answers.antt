@@ -6,8 +6,8 @@ use Rattle.sehmelir.proofs.convert_calls.converted.Goals as goal
 
 pub returns-in-Bytes : goal.returns-in-Bytes
 unfolding reply_of_converted
-returns-in-Bytes c = told (ap reply_of_converted (sym c.answer-1.given.1)) c.plain.ensures
+returns-in-Bytes c = told (ap reply_of_converted (sym c.in-Bytes.is)) c.plain.ensures
 
 pub returns-in-Refused : goal.returns-in-Refused
 unfolding reply_of_converted
-returns-in-Refused c = told_as (ap reply_of_converted (sym c.answer-in-Refused-1.given.1)) c.refusal.ensures
+returns-in-Refused c = told_as (ap reply_of_converted (sym c.in-Refused.is)) c.refusal.ensures

@@ -6,8 +6,8 @@ use Rattle.sehmelir.proofs.reason_calls.listed.Goals as goal
 
 pub returns-in-Edges : goal.returns-in-Edges
 unfolding reply_of_listed
-returns-in-Edges c = told (ap reply_of_listed (sym c.answer-1.given.1)) c.plain.ensures
+returns-in-Edges c = told (ap reply_of_listed (sym c.in-Edges.is)) c.plain.ensures
 
 pub returns-in-Refused : goal.returns-in-Refused
 unfolding reply_of_listed
-returns-in-Refused c = told_as (ap reply_of_listed (sym c.answer-in-Refused-1.given.1)) c.refusal.ensures
+returns-in-Refused c = told_as (ap reply_of_listed (sym c.in-Refused.is)) c.refusal.ensures

@@ -3,7 +3,7 @@ use Rattle.sehmelir.proofs.SalvageTold.{salvaged_outline, salvaged_refused}
 use Rattle.sehmelir.proofs.salvage_calls.salvaged.Goals as goal
 
 pub returns-in-Outline : goal.returns-in-Outline
-returns-in-Outline c = salvaged_outline c.answer-1.given.1 c.listed_reply.ensures
+returns-in-Outline c = salvaged_outline c.in-Outline.is c.listed_reply.ensures
 
 pub returns-in-Refused : goal.returns-in-Refused
-returns-in-Refused c = salvaged_refused c.answer-in-Refused-1.given.1 c.refused_salvage.ensures
+returns-in-Refused c = salvaged_refused c.in-Refused.is c.refused_salvage.ensures
