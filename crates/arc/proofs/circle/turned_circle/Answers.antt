@@ -2,7 +2,7 @@
 use mathlib.Core.Path.{◌≡◌}
 use mathlib.Core.List.{◌++◌}
 use Prim.Native.Nat.{◌+◌, ◌-◌, ◌^◌}
-use borrow.Author.Tests.{leb-true}
+use borrow.Author.Tests.{not-true}
 use native.Mathlib.Omega.{arith}
 use Rattle.runs.specs.Runs.{Runs, put}
 use Rattle.runs.proofs.Laws.{runs_as, room_as, room_first}
@@ -55,7 +55,7 @@ twice : (c : Then-out-at) →
     Runs put edge_numbers a.out.now a.at (circle_of a.pen.step a.c a.radius) s.new.out (s.result + (s.result - a.at))
 twice c =
     let alike = halves_alike _ _ (bits c.args.radius) c.if-radius-le1.false c.east-e.ensures c.west-w.ensures in
-    runs_as (halves c.before.before.before.before.before.before) (counted_twice _ _ c.if-out-at.true alike (lays_plain c.if-not-pen.true c.swept-n.ensures))
+    runs_as (halves c.before.before.before.before.before.before) (counted_twice _ _ c.if-out-at.true alike (lays_plain (not-true c.args.pen.folds c.if-not-pen.true) c.swept-n.ensures))
 
 pub returns-then-out-at : goal.returns-then-out-at
 returns-then-out-at c =
