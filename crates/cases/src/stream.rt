@@ -1,5 +1,6 @@
 // A long input through a short buffer: filled, worked through by whole lines, the rest moved to the front, filled again.
-ghost use Rattle.std.specs.Prelude.{◌≡◌, ◌+◌, ◌≤◌, IfOk, length};
+ghost use Rattle.std.specs.Prelude.{◌≡◌, ◌+◌, ◌<◌, ◌≤◌, IfOk, length, take, drop, slice_range};
+ghost use Rattle.std.specs.Io.KnownBytes.{Consumes, IsAtEnd};
 
 use std::io;
 use std::io::Read;
@@ -7,7 +8,10 @@ use std::io::Read;
 // Reads on behind the first `filled` bytes, until the buffer is full or the input ends; how many are filled then.
 pub fn fill<R: Read>(input: &mut R, buffer: &mut [u8], filled: usize) -> io::Result<usize>
     requires { filled ≤ length buffer.old }
-    ensures { IfOk result (λ count. (filled ≤ count) × (count ≤ length buffer.old)) }
+    ensures count { IfOk result (λ count. (filled ≤ count) × (count ≤ length buffer.old)) }
+    ensures kept { take filled buffer.new ≡ take filled buffer.old }
+    ensures read { IfOk result (λ count. Consumes (R.remaining input.old) (R.remaining input.new) (drop filled (take count buffer.new))) }
+    ensures end { IfOk result (λ count. count < length buffer.old → IsAtEnd (R.remaining input.new)) }
 {
     let mut count = filled;
     while count < buffer.len() {
@@ -46,7 +50,8 @@ pub fn ready(buffer: &[u8], filled: usize) -> usize
 // Moves the bytes between two places to the front; how many there are.
 pub fn to_front(buffer: &mut [u8], from: usize, to: usize) -> usize
     requires { (from ≤ to) × (to ≤ length buffer.old) }
-    ensures { result + from ≡ to }
+    ensures count { result + from ≡ to }
+    ensures front { take result buffer.new ≡ slice_range buffer.old from to }
 {
     buffer.copy_within(from..to, 0);
     to - from

@@ -167,13 +167,7 @@ fn lend_read<W: Write>(
     if room.len() < most {
         return no_case(page);
     }
-    print_read(
-        line,
-        at,
-        page,
-        &mut store[0..count],
-        &mut room[0..most],
-    )
+    print_read(line, at, page, &mut store[0..count], &mut room[0..most])
 }
 
 // Lends a replacement the store that it asks for.
