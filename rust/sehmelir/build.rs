@@ -1,14 +1,19 @@
 //! Finds the proved library's archive, or has it built, and links it.
 
 use std::env;
+use std::fs;
 use std::path::{Path, PathBuf};
 use std::process::{exit, Command};
 
 const ARCHIVE: &str = "libsehmelir.a";
 const DIRECTORY_VARIABLE: &str = "SEHMELIR_ARCHIVE_DIR";
 
-/// What the archive is made of and by, from the repository's root on.
-const SOURCES: [&str; 3] = ["crates", "crates.txt", "tools/archive"];
+/// What the archive is made of and by, from the repository's root on, beside
+/// the crates.
+const SOURCES: [&str; 2] = ["crates.txt", "tools/archive"];
+
+/// What a crate is made of; its other folders hold no source.
+const PARTS: [&str; 3] = ["src", "specs", "proofs"];
 
 fn main() {
     println!("cargo:rerun-if-env-changed={DIRECTORY_VARIABLE}");
@@ -42,10 +47,26 @@ fn archive_directory() -> Result<PathBuf, String> {
     own_target()?;
     let root = Path::new("../..").canonicalize();
     let root = root.map_err(|error| format!("The repository's root is not found: {error}."))?;
-    for source in SOURCES {
-        println!("cargo:rerun-if-changed={}", root.join(source).display());
+    for source in SOURCES
+        .map(|it| root.join(it))
+        .into_iter()
+        .chain(parts(&root))
+    {
+        println!("cargo:rerun-if-changed={}", source.display());
     }
     build(&root)
+}
+
+/// The folders that hold the crates' sources.
+fn parts(root: &Path) -> Vec<PathBuf> {
+    let crates = fs::read_dir(root.join("crates"))
+        .into_iter()
+        .flatten()
+        .flatten();
+    crates
+        .flat_map(|it| PARTS.map(|part| it.path().join(part)))
+        .filter(|it| it.is_dir())
+        .collect()
 }
 
 /// Whether what is being built is for the machine at hand: the archive is.

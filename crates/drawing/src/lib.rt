@@ -1,4 +1,6 @@
 // draw: a path's edges into lent numbers.
+#![tactic(auto)]
+
 ghost use Rattle.std.specs.Prelude.{◌≡◌, ◌^◌, ◌≤◌, ◌<◌, length, take};
 ghost use Rattle.runs.specs.Runs.{over, put};
 ghost use Rattle.plane.specs.Directions.{UnitLong, step_of};

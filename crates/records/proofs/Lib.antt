@@ -1,3 +1,2 @@
 -- The crate's own laws.
-pub mod Again
 pub mod Gathered

@@ -1,4 +1,6 @@
 // A path as its host holds it: vertex records, lent as a slice and read where they lie.
+#![tactic(auto)]
+
 ghost use Rattle.std.specs.Prelude.{◌*◌, ◌≤◌, ◌<◌, length, take};
 ghost use Rattle.records.specs.Records.{PutsRecord, Gathers};
 

@@ -4,7 +4,6 @@ pub mod OneReply
 pub mod ChunkTold
 pub mod ConvertTold
 pub mod ReasonTold
-pub mod OwnArray
 pub mod RecordTold
 pub mod SideTold
 pub mod SalvageTold

@@ -1,5 +1,4 @@
-// The calls over vertex records, for C and Rust: numbers and slices only. A function over a slice of structs is proved by a walk of its MIR, by hand,
-// so these are thin: what they call is covered.
+// The calls over vertex records, for C and Rust: numbers and slices only.
 ghost use Rattle.std.specs.Prelude.{◌≡◌, ◌*◌, ◌≤◌, length};
 ghost use Rattle.runs.specs.Runs.{spread};
 ghost use Rattle.records.specs.Records.{record_numbers, record_posts};

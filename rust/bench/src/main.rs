@@ -153,7 +153,7 @@ fn calls(names: &[&str]) -> Option<Vec<Call>> {
     }
 }
 
-/// Whether `plain` was built as the library is: optimised, for any processor
+/// Whether `plain` was built as it is compared: optimised, for any processor
 /// of its kind.
 fn fair() -> Result<(), &'static str> {
     if cfg!(debug_assertions) {
@@ -167,13 +167,7 @@ fn fair() -> Result<(), &'static str> {
 
 /// What both were compiled for, and what the library's code is.
 fn code() -> (&'static str, &'static str) {
-    if cfg!(target_arch = "x86_64") {
-        return ("x86-64", "the archive that rt staticlib writes");
-    }
-    (
-        "64-bit Arm",
-        "the archive that tools/archive compiles of the library's LLVM module",
-    )
+    ("x86-64", "the archive that rt lib writes, for x86-64-v2")
 }
 
 /// The processor, as the system describes it.

@@ -1,4 +1,5 @@
 -- `drawing::draw_begun` meets its contract: what the own numbers hold, put there, and the rest drawn from there on are the path's edges. Assumes nothing.
+use mathlib.Core.List.{[]}
 use native.Mathlib.Omega.{arith}
 use Rattle.plane.proofs.Directions.{step_unit}
 use Rattle.folds.proofs.ReadBack.{sizes_room}

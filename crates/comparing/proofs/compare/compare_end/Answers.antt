@@ -1,4 +1,5 @@
 -- `comparing::compare::compare_end` meets its contract: the closing edges stand in `own`, and are compared as words. Assumes nothing.
+use mathlib.Core.List.{[]}
 use mathlib.Core.List.{◌∷◌}
 use mathlib.Core.Path.{ap}
 use native.Mathlib.Omega.{arith}

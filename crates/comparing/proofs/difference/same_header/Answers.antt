@@ -1,4 +1,5 @@
 -- `comparing::difference::same_header` meets its contract: its words one after another. Assumes nothing.
+use mathlib.Core.List.{[]}
 use mathlib.Core.List.{◌∷◌}
 use mathlib.Core.Path.{sym, ap}
 use native.Mathlib.Omega.{arith}

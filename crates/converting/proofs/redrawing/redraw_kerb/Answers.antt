@@ -1,4 +1,5 @@
 -- `converting::redrawing::redraw_kerb` meets its contract: what is needed is the outline's length, so its test is the row of the room. Assumes nothing.
+use mathlib.Core.List.{[]}
 use native.Mathlib.Omega.{arith}
 use Rattle.kerb_paths.specs.Points.{kerb_path}
 use Rattle.outline.proofs.ReadBack.{few_edges}

@@ -1,4 +1,5 @@
 -- `keeping::filling::fill_end` meets its contract: the walk puts the closing edges into `own`, from where their count and their words are put. Assumes nothing.
+use mathlib.Core.List.{[]}
 use mathlib.Core.List.{◌∷◌}
 use mathlib.Core.Path.{ap}
 use Prim.Native.Nat.{ℕ}

@@ -1,4 +1,5 @@
 -- `keeping::filling::put_header` meets its contract: its five words are put one after another. Assumes nothing.
+use mathlib.Core.List.{[]}
 use mathlib.Core.List.{◌∷◌}
 use mathlib.Core.Path.{sym, ap}
 use Prim.Native.Nat.{ℕ}

@@ -1,4 +1,5 @@
 -- `kerb_keeping::writing::rewrite_kerb` meets its contract: the rows of writing in their order, and then the outline. Assumes nothing.
+use mathlib.Core.List.{[]}
 use mathlib.Core.Path.{sym, ◌∙◌}
 use native.Mathlib.Omega.{arith}
 use Rattle.kerb_paths.specs.Points.{kerb_path}

@@ -1,4 +1,5 @@
 -- `kerb_keeping::writing::write_kerb` meets its contract: the outline, and zeros from its end on. Assumes nothing.
+use mathlib.Core.List.{[]}
 use Rattle.kerb_paths.specs.Points.{kerb_path}
 use Rattle.outline.specs.declared.Form.TheVariants.{Kerb}
 use Rattle.keeping.proofs.Rewrites.{write_done}
