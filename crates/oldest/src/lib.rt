@@ -1,4 +1,6 @@
 // The oldest chunks: a vertex as three 32-bit floats, taken as whole numbers and written back.
+#![tactic(auto)]
+
 use replies::Refusal;
 
 pub mod exporting;
