@@ -1,1 +1,2 @@
 // Boundaries that close, as the calls give them: no code.
+#![tactic(auto)]

@@ -1,5 +1,7 @@
 // The calls with room of their own: a path's edges, its kept outline, the path of an outline, another vertex in one, and how far that reaches. What is
 // small gets few own numbers, since they must be zeros first.
+#![tactic(auto)]
+
 ghost use Rattle.drawing.specs.Drawing.{Draws};
 ghost use Rattle.kerb_drawing.specs.KerbDrawing.{DrawsKerb};
 ghost use Rattle.keeping.specs.Keeping.{plain_posts, Keeps};

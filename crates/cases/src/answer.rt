@@ -3,6 +3,8 @@ use crate::checksum;
 use crate::entries::long;
 use lines::page;
 use lines::token::wide;
+use std::io;
+use std::io::Write;
 
 // What a call answers, as numbers.
 #[derive(Clone, Copy)]
@@ -13,69 +15,54 @@ pub struct Reply {
 }
 
 // A number and a space.
-fn spaced(page: &mut [u8; 4096], fill: usize, value: u64) -> usize {
-    let filled = page::unsigned(page, fill, value);
-    page::space(page, filled)
+fn spaced<W: Write>(page: &mut W, value: u64) -> io::Result<()> {
+    page::unsigned(page, value)?;
+    page::space(page)
 }
 
 // The five numbers of an answer.
-fn print_head(page: &mut [u8; 4096], fill: usize, reply: Reply, sum: u64, length: usize) -> usize {
-    let first = spaced(page, fill, reply.reply);
-    let second = spaced(page, first, reply.number);
-    let third = spaced(page, second, reply.grade);
-    let fourth = spaced(page, third, sum);
-    page::unsigned(page, fourth, length as u64)
+fn print_head<W: Write>(page: &mut W, reply: Reply, sum: u64, length: usize) -> io::Result<()> {
+    spaced(page, reply.reply)?;
+    spaced(page, reply.number)?;
+    spaced(page, reply.grade)?;
+    spaced(page, sum)?;
+    page::unsigned(page, length as u64)
 }
 
 // Each of the numbers after a space.
-fn print_each_number(page: &mut [u8; 4096], fill: usize, memory: &[i32]) -> usize {
-    let mut filled = page::text(page, fill, b" :");
-    let mut i = 0;
-    while i < memory.len() {
-        let gap = page::space(page, filled);
-        filled = page::signed(page, gap, long(memory[i]));
-        i += 1;
+fn print_each_number<W: Write>(page: &mut W, memory: &[i32]) -> io::Result<()> {
+    page::text(page, b" :")?;
+    for entry in memory {
+        page::space(page)?;
+        page::signed(page, long(*entry))?;
     }
-    filled
+    Ok(())
 }
 
 // Each of the bytes after a space.
-fn print_each_byte(page: &mut [u8; 4096], fill: usize, memory: &[u8]) -> usize {
-    let mut filled = page::text(page, fill, b" :");
-    let mut i = 0;
-    while i < memory.len() {
-        let gap = page::space(page, filled);
-        filled = page::unsigned(page, gap, wide(memory[i]));
-        i += 1;
+fn print_each_byte<W: Write>(page: &mut W, memory: &[u8]) -> io::Result<()> {
+    page::text(page, b" :")?;
+    for byte in memory {
+        page::space(page)?;
+        page::unsigned(page, wide(*byte))?;
     }
-    filled
+    Ok(())
 }
 
 // The answer of a call that was lent numbers.
-pub fn print_with_numbers(
-    page: &mut [u8; 4096],
-    fill: usize,
-    reply: Reply,
-    memory: &[i32],
-) -> usize {
-    let filled = print_head(
-        page,
-        fill,
-        reply,
-        checksum::of_numbers(memory),
-        memory.len(),
-    );
+pub fn print_with_numbers<W: Write>(page: &mut W, reply: Reply, memory: &[i32]) -> io::Result<()> {
+    print_head(page, reply, checksum::of_numbers(memory), memory.len())?;
     if 64 < memory.len() {
-        return filled;
+        return Ok(());
     }
-    print_each_number(page, filled, memory)
+    print_each_number(page, memory)
 }
 
 // The answer of a call that was lent bytes.
-pub fn print_with_bytes(page: &mut [u8; 4096], fill: usize, reply: Reply, memory: &[u8]) -> usize {
-    let filled = print_head(page, fill, reply, checksum::of_bytes(memory), memory.len());
+pub fn print_with_bytes<W: Write>(page: &mut W, reply: Reply, memory: &[u8]) -> io::Result<()> {
+    print_head(page, reply, checksum::of_bytes(memory), memory.len())?;
     if 64 < memory.len() {
-        return filled;
+        return Ok(());
     }
-    print_each_byte(page, filled, memory)
+    print_each_byte(page, memory)
 }

@@ -2,18 +2,14 @@
 
 // Lent numbers.
 pub fn fill_numbers(numbers: &mut [i32]) {
-    let mut i = 0;
-    while i < numbers.len() {
-        numbers[i] = (i % 251) as i32;
-        i += 1;
+    for (i, number) in numbers.iter_mut().enumerate() {
+        *number = (i % 251) as i32;
     }
 }
 
 // Lent bytes.
 pub fn fill_bytes(bytes: &mut [u8]) {
-    let mut i = 0;
-    while i < bytes.len() {
-        bytes[i] = (i % 251) as u8;
-        i += 1;
+    for (i, byte) in bytes.iter_mut().enumerate() {
+        *byte = (i % 251) as u8;
     }
 }

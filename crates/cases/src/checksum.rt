@@ -24,10 +24,8 @@ fn pattern(entry: i32) -> u64
 // The checksum of numbers.
 pub fn of_numbers(memory: &[i32]) -> u64 {
     let mut sum: u64 = 0;
-    let mut i = 0;
-    while i < memory.len() {
-        sum = next_sum(sum, pattern(memory[i]));
-        i += 1;
+    for entry in memory {
+        sum = next_sum(sum, pattern(*entry));
     }
     sum
 }
@@ -35,10 +33,8 @@ pub fn of_numbers(memory: &[i32]) -> u64 {
 // The checksum of bytes.
 pub fn of_bytes(memory: &[u8]) -> u64 {
     let mut sum: u64 = 0;
-    let mut i = 0;
-    while i < memory.len() {
-        sum = next_sum(sum, wide(memory[i]));
-        i += 1;
+    for entry in memory {
+        sum = next_sum(sum, wide(*entry));
     }
     sum
 }

@@ -37,22 +37,19 @@ pub fn read_numbers(line: &[u8], at: usize, numbers: &mut [i32]) -> bool
     requires { at ≤ length line.now }
 {
     let mut place = at;
-    let mut i = 0;
-    while i < numbers.len() {
+    for entry in numbers.iter_mut() {
         if line.len() <= place {
             return false;
         }
         let step = next(line, place);
-        let token = step.token;
-        let Token::Whole(number) = token else {
+        let Token::Whole(number) = step.token else {
             return false;
         };
-        let Entry::Is(entry) = narrow(number) else {
+        let Entry::Is(value) = narrow(number) else {
             return false;
         };
-        numbers[i] = entry;
+        *entry = value;
         place = step.at;
-        i += 1;
     }
     line.len() <= place
 }
@@ -62,14 +59,12 @@ pub fn read_bytes(line: &[u8], at: usize, bytes: &mut [u8]) -> bool
     requires { at ≤ length line.now }
 {
     let mut place = at;
-    let mut i = 0;
-    while i < bytes.len() {
+    for byte in bytes.iter_mut() {
         if line.len() <= place {
             return false;
         }
         let step = next(line, place);
-        let token = step.token;
-        let Token::Whole(number) = token else {
+        let Token::Whole(number) = step.token else {
             return false;
         };
         if number.minus {
@@ -78,9 +73,8 @@ pub fn read_bytes(line: &[u8], at: usize, bytes: &mut [u8]) -> bool
         if 255 < number.size {
             return false;
         }
-        bytes[i] = number.size as u8;
+        *byte = number.size as u8;
         place = step.at;
-        i += 1;
     }
     line.len() <= place
 }

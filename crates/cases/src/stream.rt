@@ -1,28 +1,37 @@
 // A long input through a short buffer: filled, worked through by whole lines, the rest moved to the front, filled again.
-ghost use Rattle.std.specs.Prelude.{◌≡◌, ◌+◌, ◌≤◌, length};
+ghost use Rattle.std.specs.Prelude.{◌≡◌, ◌+◌, ◌<◌, ◌≤◌, IfOk, length, take, drop, slice_range};
+ghost use Rattle.std.specs.Io.KnownBytes.{Consumes, IsAtEnd};
 
-use libc::STDIN_FILENO;
+use std::io;
+use std::io::Read;
 
 // Reads on behind the first `filled` bytes, until the buffer is full or the input ends; how many are filled then.
-pub fn fill(buffer: &mut [u8], filled: usize) -> usize
+pub fn fill<R: Read>(input: &mut R, buffer: &mut [u8], filled: usize) -> io::Result<usize>
     requires { filled ≤ length buffer.old }
-    ensures { (filled ≤ result) × (result ≤ length buffer.old) }
+    ensures count { IfOk result (λ count. (filled ≤ count) × (count ≤ length buffer.old)) }
+    ensures kept { take filled buffer.new ≡ take filled buffer.old }
+    ensures read { IfOk result (λ count. Consumes (R.remaining input.old) (R.remaining input.new) (drop filled (take count buffer.new))) }
+    ensures end { IfOk result (λ count. count < length buffer.old → IsAtEnd (R.remaining input.new)) }
 {
-    filled + io::read_full(STDIN_FILENO, &mut buffer[filled..])
+    let mut count = filled;
+    while count < buffer.len() {
+        let more = input.read(&mut buffer[count..])?;
+        if more == 0 {
+            break;
+        }
+        count += more;
+    }
+    Ok(count)
 }
 
 // How many bytes the whole lines at the front have: up to the last line end.
 pub fn whole_lines(text: &[u8]) -> usize
     ensures { result ≤ length text.now }
 {
-    let mut i = text.len();
-    while 0 < i {
-        if text[i - 1] == b'\n' {
-            return i;
-        }
-        i -= 1;
+    match text.iter().rposition(|byte| *byte == b'\n') {
+        Some(last) => last + 1,
+        None => 0,
     }
-    0
 }
 
 // How many bytes at the front can be worked through: the whole lines, or the last line if the input has ended before its line end. None if nothing
@@ -41,13 +50,9 @@ pub fn ready(buffer: &[u8], filled: usize) -> usize
 // Moves the bytes between two places to the front; how many there are.
 pub fn to_front(buffer: &mut [u8], from: usize, to: usize) -> usize
     requires { (from ≤ to) × (to ≤ length buffer.old) }
-    ensures { result + from ≡ to }
+    ensures count { result + from ≡ to }
+    ensures front { take result buffer.new ≡ slice_range buffer.old from to }
 {
-    let count = to - from;
-    let mut i = 0;
-    while i < count {
-        buffer[i] = buffer[from + i];
-        i += 1;
-    }
-    count
+    buffer.copy_within(from..to, 0);
+    to - from
 }

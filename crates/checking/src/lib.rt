@@ -1,4 +1,6 @@
 // The rows that read and replace share: is this store an outline, and is it sound?
+#![tactic(auto)]
+
 ghost use Rattle.std.specs.Prelude.{◌≤◌, length};
 ghost use Rattle.checking.specs.StoreChecks.{StoreSays};
 ghost use Rattle.checking.specs.StoreRoom.{store_path, store_own};

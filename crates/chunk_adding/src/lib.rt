@@ -1,4 +1,6 @@
 // Add: an outline that is checked as reading checks it, stored in a chunk under a key.
+#![tactic(auto)]
+
 ghost use Rattle.std.specs.Prelude.{◌≡◌, false, ◌≤◌, length};
 ghost use Rattle.checking.specs.StoreChecks.{Sound};
 ghost use Rattle.checking.specs.StoreRoom.{store_path, store_own};

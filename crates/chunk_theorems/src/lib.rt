@@ -1,1 +1,2 @@
 // An outline added to a chunk, and a vertex replaced in one: no code.
+#![tactic(auto)]

@@ -1,4 +1,6 @@
 // Many outlines in one chunk, behind a table of contents: make, find, remove, compact, and add once the outline is known to be sound.
+#![tactic(auto)]
+
 use replies::Refusal;
 
 pub mod bytes;

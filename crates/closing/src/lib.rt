@@ -1,1 +1,2 @@
 // Boundaries that close: no code.
+#![tactic(auto)]

@@ -1,4 +1,6 @@
 // A store compared with the outline that its own vertices give.
+#![tactic(auto)]
+
 pub mod compare;
 pub mod difference;
 

@@ -1,4 +1,6 @@
 // Vertices and the sections between them: contacts, kinds of step, covering; follows math.rs and section.rs of src/mesh/int/variable_stroke.
+#![tactic(auto)]
+
 use turning::Edge;
 
 pub mod limits;

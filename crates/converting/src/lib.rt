@@ -1,4 +1,6 @@
 // convert: a kept outline drawn anew, in place, at the grade that the caller names.
+#![tactic(auto)]
+
 ghost use Rattle.std.specs.Prelude.{◌≡◌, ◌≤◌, length};
 ghost use Rattle.outline.specs.declared.Form.TheVariants.{Stroke, Kerb};
 ghost use Rattle.checking.specs.Known.{Passed};

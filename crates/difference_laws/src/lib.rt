@@ -1,1 +1,2 @@
 // Nothing differs exactly where a store is sound: no code.
+#![tactic(auto)]

@@ -1,4 +1,6 @@
 // The bodies of a store compared in one walk with those that its own vertices give: document 02, request 14.
+#![tactic(auto)]
+
 ghost use Rattle.std.specs.Prelude.{◌≡◌, ◌+◌, ◌*◌, ◌^◌, ◌≤◌, ◌<◌, length, drop};
 ghost use Rattle.runs.specs.Runs.{Runs, put};
 ghost use Rattle.plane.specs.Directions.{UnitLong};

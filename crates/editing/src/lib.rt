@@ -1,4 +1,6 @@
 // Outlines changed in place.
+#![tactic(auto)]
+
 use replies::Refusal;
 
 pub mod replacing;

@@ -1,4 +1,6 @@
 // explain and list: why an edge of a kept outline is there, and why each of them is; document 02, request 1, and of sides request 7.
+#![tactic(auto)]
+
 ghost use Rattle.std.specs.Prelude.{◌≡◌, ◌*◌, ◌≤◌, length, take};
 ghost use Rattle.paths.specs.Paths.{path_of, Within};
 ghost use Rattle.reasons.specs.Reasons.{whys_of};

@@ -1,4 +1,6 @@
 // For speed alone: a whole arc held in eleven numbers, and the pen that says whether arcs may be held so.
+#![tactic(auto)]
+
 use plane::{Point, Vector};
 use turning::Edge;
 

@@ -1,5 +1,7 @@
 // For speed alone: the half turn of directions at grade 8 as a table (document 02, request 2). A circle's first half is its pairs, each scaled by the radius;
 // the second is the same by half a turn.
+#![tactic(auto)]
+
 ghost use Rattle.std.specs.Prelude.{◌≡◌, not, ◌+◌, ◌*◌, ◌≤◌, length};
 ghost use Rattle.runs.specs.Runs.{Runs, Room, put};
 ghost use Rattle.plane.specs.Vectors.{Near};

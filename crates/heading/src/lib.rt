@@ -1,4 +1,6 @@
 // A store's header: its rows, and the vertices after it as numbers.
+#![tactic(auto)]
+
 use outline::Form;
 use replies::Refusal;
 

@@ -1,4 +1,6 @@
 // keep: the outline of a path into lent bytes.
+#![tactic(auto)]
+
 ghost use Rattle.std.specs.Prelude.{◌≤◌, length};
 ghost use Rattle.own_room.specs.OwnRoom.{step_numbers};
 ghost use Rattle.replies.specs.Checks.{Fits};

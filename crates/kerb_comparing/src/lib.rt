@@ -1,4 +1,6 @@
 // A store compared with the outline of a kerb, in one tour: the counts and the bodies go on side by side.
+#![tactic(auto)]
+
 ghost use Rattle.std.specs.Prelude.{false, ◌≡◌, [], ◌+◌, ◌*◌, ◌^◌, ◌≤◌, ◌<◌, length};
 ghost use Rattle.runs.specs.Runs.{Runs, agree, spread};
 ghost use Rattle.plane.specs.Directions.{UnitLong};

@@ -1,4 +1,6 @@
 // draw: a kerb's edges into lent numbers.
+#![tactic(auto)]
+
 ghost use Rattle.std.specs.Prelude.{◌≡◌, ◌≤◌, ◌<◌, length};
 ghost use Rattle.runs.specs.Runs.{Runs, put};
 ghost use Rattle.turning.specs.Edges.{edge_numbers};

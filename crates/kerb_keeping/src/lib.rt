@@ -1,4 +1,6 @@
 // keep of a kerb: its outline into lent bytes.
+#![tactic(auto)]
+
 ghost use Rattle.std.specs.Prelude.{◌≤◌, length};
 ghost use Rattle.kerb_outline.specs.Remaining.{piece_numbers};
 ghost use Rattle.kerb_rows.specs.KerbRows.{KerbFits};

@@ -1,4 +1,6 @@
 // The rows that drawing and keeping a kerb share: are these points, a grade, a style and vertices within the limits?
+#![tactic(auto)]
+
 ghost use Rattle.kerb_rows.specs.KerbRows.{KerbSays};
 
 use kerb::styles::style_of;

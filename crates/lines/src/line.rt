@@ -8,14 +8,12 @@ pub fn end(text: &[u8], at: usize) -> usize
     requires { at ≤ length text.now }
     ensures { (at ≤ result) × (result ≤ length text.now) }
 {
-    let mut i = at;
-    while i < text.len() {
+    for i in at..text.len() {
         if text[i] == b'\n' {
             return i;
         }
-        i += 1;
     }
-    i
+    text.len()
 }
 
 // How many numbers were read, and where the line goes on.
@@ -36,21 +34,18 @@ pub fn read_numbers(
     requires { (at ≤ length line.now) × (most ≤ 16) }
     ensures { (result.count ≤ most) × (result.at ≤ length line.now) }
 {
-    let mut count: usize = 0;
     let mut i = at;
-    while count < most {
+    for count in 0..most {
         if line.len() <= i {
             return Numbers { count, at: i };
         }
         let step = next(line, i);
-        let token = step.token;
-        let Token::Whole(number) = token else {
+        let Token::Whole(number) = step.token else {
             return Numbers { count, at: i };
         };
         minus[count] = number.minus;
         sizes[count] = number.size;
-        count += 1;
         i = step.at;
     }
-    Numbers { count, at: i }
+    Numbers { count: most, at: i }
 }

@@ -1,65 +1,56 @@
-// A page of bytes to print: filled from the front, written when it is full, so that a number costs no write of its own.
-use libc::STDOUT_FILENO;
-use number::sign::size;
+// A page of bytes to print: a writer that is lent and appended to. Behind it a buffer stands, so that a number costs no write of its own.
+ghost use Rattle.std.specs.Prelude.{OnOk, [], ◌∷◌};
+ghost use Rattle.std.specs.Fmt.{decimal, signed_decimal};
+ghost use Rattle.std.specs.Io.KnownBytes.{Appends, Keeps};
 
-// The byte after the first `fill` of the page, which is written first if it is full; how many are filled then.
-pub fn byte(page: &mut [u8; 4096], fill: usize, value: u8) -> usize {
-    if fill < 4096 {
-        page[fill] = value;
-        return fill + 1;
-    }
-    io::write_all(STDOUT_FILENO, page);
-    page[0] = value;
-    1
+use std::io;
+use std::io::Write;
+
+// One byte.
+pub fn byte<W: Write>(page: &mut W, value: u8) -> io::Result<()>
+    ensures { OnOk result (Appends (W.contents page.old) (W.contents page.new) (value ∷ [])) }
+{
+    page.write_all(&[value])
 }
 
 // Each byte of a text.
-pub fn text(page: &mut [u8; 4096], fill: usize, bytes: &[u8]) -> usize {
-    let mut filled = fill;
-    let mut i = 0;
-    while i < bytes.len() {
-        filled = byte(page, filled, bytes[i]);
-        i += 1;
-    }
-    filled
+pub fn text<W: Write>(page: &mut W, bytes: &[u8]) -> io::Result<()>
+    ensures { OnOk result (Appends (W.contents page.old) (W.contents page.new) bytes.now) }
+{
+    page.write_all(bytes)
 }
 
 // A number in decimal digits.
-pub fn unsigned(page: &mut [u8; 4096], fill: usize, value: u64) -> usize {
-    let mut digits = [0u8; 20];
-    let count = io::decimal(value, &mut digits);
-    text(page, fill, &digits[..count])
+pub fn unsigned<W: Write>(page: &mut W, value: u64) -> io::Result<()>
+    ensures { OnOk result (Appends (W.contents page.old) (W.contents page.new) (decimal value)) }
+{
+    write!(page, "{value}")
 }
 
 // A number in decimal digits, after a minus if it is below 0.
-pub fn signed(page: &mut [u8; 4096], fill: usize, value: i64) -> usize {
-    let mut filled = fill;
-    if value < 0 {
-        filled = byte(page, filled, b'-');
-    }
-    unsigned(page, filled, size(value))
+pub fn signed<W: Write>(page: &mut W, value: i64) -> io::Result<()>
+    ensures { OnOk result (Appends (W.contents page.old) (W.contents page.new) (signed_decimal value)) }
+{
+    write!(page, "{value}")
 }
 
 // A space.
-pub fn space(page: &mut [u8; 4096], fill: usize) -> usize {
-    byte(page, fill, b' ')
+pub fn space<W: Write>(page: &mut W) -> io::Result<()>
+    ensures { OnOk result (Appends (W.contents page.old) (W.contents page.new) (32 ∷ [])) }
+{
+    byte(page, b' ')
 }
 
 // A line end.
-pub fn line_end(page: &mut [u8; 4096], fill: usize) -> usize {
-    byte(page, fill, b'\n')
-}
-
-// Writes the first `count` bytes, or all if there are no more.
-fn write_front(bytes: &[u8], count: usize) {
-    if count < bytes.len() {
-        io::write_all(STDOUT_FILENO, &bytes[0..count]);
-    } else {
-        io::write_all(STDOUT_FILENO, bytes);
-    }
+pub fn line_end<W: Write>(page: &mut W) -> io::Result<()>
+    ensures { OnOk result (Appends (W.contents page.old) (W.contents page.new) (10 ∷ [])) }
+{
+    byte(page, b'\n')
 }
 
 // Writes what the page is filled with.
-pub fn finish(page: &[u8; 4096], fill: usize) {
-    write_front(page, fill);
+pub fn finish<W: Write>(page: &mut W) -> io::Result<()>
+    ensures { Keeps (W.contents page.old) (W.contents page.new) }
+{
+    page.flush()
 }

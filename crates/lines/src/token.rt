@@ -24,13 +24,6 @@ pub struct Step {
     pub at: usize,
 }
 
-// The size that digits spell.
-#[derive(Clone, Copy)]
-enum Spelt {
-    Size(u64),
-    Nothing,
-}
-
 // A byte as a wide number.
 pub fn wide(byte: u8) -> u64
     ensures { result < 256 }
@@ -39,47 +32,33 @@ pub fn wide(byte: u8) -> u64
 }
 
 // The size that a word of digits spells, if it fits.
-fn read_digits(word: &[u8]) -> Spelt {
-    if word.len() == 0 {
-        return Spelt::Nothing;
+fn read_digits(word: &[u8]) -> Option<u64> {
+    if word.is_empty() {
+        return None;
     }
     let mut size: u64 = 0;
-    let mut i = 0;
-    while i < word.len() {
-        let code = wide(word[i]);
-        if code < 48 {
-            return Spelt::Nothing;
+    for byte in word {
+        if !byte.is_ascii_digit() {
+            return None;
         }
-        if 57 < code {
-            return Spelt::Nothing;
-        }
-        let digit = code - 48;
-        if (0xFFFF_FFFF_FFFF_FFFF - digit) / 10 < size {
-            return Spelt::Nothing;
-        }
-        size = size * 10 + digit;
-        i += 1;
+        size = size.checked_mul(10)?.checked_add(wide(*byte - b'0'))?;
     }
-    Spelt::Size(size)
+    Some(size)
 }
 
 // The number of that sign that a word of digits spells.
 fn read_signed(minus: bool, word: &[u8]) -> Token {
     match read_digits(word) {
-        Spelt::Size(size) => Token::Whole(Number { minus, size }),
-        Spelt::Nothing => Token::Other,
+        Some(size) => Token::Whole(Number { minus, size }),
+        None => Token::Other,
     }
 }
 
 // The number that a word spells, with or without a sign.
 fn read_word(word: &[u8]) -> Token {
-    if word.len() == 0 {
-        return Token::Other;
-    }
-    if word[0] == b'-' {
-        read_signed(true, &word[1..])
-    } else {
-        read_signed(false, word)
+    match word.strip_prefix(b"-") {
+        Some(digits) => read_signed(true, digits),
+        None => read_signed(false, word),
     }
 }
 
@@ -88,14 +67,12 @@ fn word_start(text: &[u8], at: usize) -> usize
     requires { at ≤ length text.now }
     ensures { (at ≤ result) × (result ≤ length text.now) }
 {
-    let mut i = at;
-    while i < text.len() {
+    for i in at..text.len() {
         if text[i] != b' ' {
             return i;
         }
-        i += 1;
     }
-    i
+    text.len()
 }
 
 // The first place from at on that holds a space or a line end, or the end.
@@ -103,18 +80,12 @@ fn word_end(text: &[u8], at: usize) -> usize
     requires { at ≤ length text.now }
     ensures { (at ≤ result) × (result ≤ length text.now) }
 {
-    let mut i = at;
-    while i < text.len() {
-        let byte = text[i];
-        if byte == b' ' {
+    for i in at..text.len() {
+        if matches!(text[i], b' ' | b'\n') {
             return i;
         }
-        if byte == b'\n' {
-            return i;
-        }
-        i += 1;
     }
-    i
+    text.len()
 }
 
 // The token from at on. Each passes at least one byte.

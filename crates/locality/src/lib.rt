@@ -1,1 +1,2 @@
 // How far a change reaches: no code.
+#![tactic(auto)]

@@ -1,4 +1,6 @@
 // Whole-number arithmetic that no machine operation gives: integer root, two-limb product, product over a divisor.
+#![tactic(auto)]
+
 pub mod division;
 pub mod guess;
 pub mod root;

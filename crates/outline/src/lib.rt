@@ -1,4 +1,6 @@
 // The kept outline: its layout, and what is proved of it.
+#![tactic(auto)]
+
 use kerb::Style;
 
 pub mod layout;

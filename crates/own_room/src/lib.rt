@@ -1,1 +1,2 @@
 // How many own numbers hold a step's edges on their way: no code.
+#![tactic(auto)]

@@ -1,4 +1,6 @@
 // Points and vectors of the plane, directions, and turns by them.
+#![tactic(auto)]
+
 pub mod direction;
 pub mod rotation;
 pub mod vectors;

@@ -1,1 +1,2 @@
 // How many rotations an arc can need: no code.
+#![tactic(auto)]

@@ -1,4 +1,6 @@
 // How far another vertex in a kept outline can reach.
+#![tactic(auto)]
+
 use replies::Refusal;
 
 pub mod reach;

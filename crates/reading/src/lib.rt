@@ -1,4 +1,6 @@
 // read: the path of a sound outline into lent numbers.
+#![tactic(auto)]
+
 ghost use Rattle.std.specs.Prelude.{◌≤◌, length};
 ghost use Rattle.reading.specs.Reading.{Reads};
 ghost use Rattle.checking.specs.StoreChecks.{Sound};

@@ -1,5 +1,7 @@
 // Why an edge is there: the rule that emits it, the vertex whose body holds it and its place under that rule; document 02, request 1. Of a side also which
 // of its ends are exact; request 7.
+#![tactic(auto)]
+
 use contacts::Exactness;
 
 pub mod counts;

@@ -1,4 +1,6 @@
 // keep over records that stand gathered: the numbers of m vertices, three each, and then their posts, each as the number that has its word.
+#![tactic(auto)]
+
 ghost use Rattle.std.specs.Prelude.{◌≡◌, ◌*◌, ◌≤◌, length, take, drop};
 ghost use Rattle.runs.specs.Runs.{over, put};
 ghost use Rattle.words.specs.Words.{words_of};

@@ -1,4 +1,6 @@
 // A path of so many records: what its count and grade decide before a record is read.
+#![tactic(auto)]
+
 ghost use Rattle.std.specs.Prelude.{◌≡◌, ◌*◌, ◌≤◌};
 ghost use Rattle.record_paths.specs.RecordPaths.{wanted_of, CountSays};
 

@@ -8,6 +8,8 @@ use cases::head::{Damage, Lent, Place};
 use keeping::Kept;
 use lines::page;
 use replies::Refusal;
+use std::io;
+use std::io::Write;
 
 // The bytes that a kept path asked for, 0 if it was refused anyhow.
 fn asked(kept: Kept) -> usize {
@@ -24,70 +26,67 @@ fn asked(kept: Kept) -> usize {
 fn damage_store(store: &mut [u8], damage: Damage) {
     let at = damage.at;
     if at < store.len() {
-        store[at] = std::num::wrapping_add_u8(store[at], damage.value);
+        store[at] = store[at].wrapping_add(damage.value);
     }
 }
 
 // Reads a store back.
-fn print_read(page: &mut [u8; 4096], fill: usize, store: &[u8], room: &mut [i32]) -> usize {
+fn print_read<W: Write>(page: &mut W, store: &[u8], room: &mut [i32]) -> io::Result<()> {
     canary::fill_numbers(room);
     let outcome = read(store, room);
-    let gap = page::space(page, fill);
-    print_with_numbers(page, gap, reply::of_read(outcome), room)
+    page::space(page)?;
+    print_with_numbers(page, reply::of_read(outcome), room)
 }
 
 // Replaces a vertex of a store.
-fn print_replace(page: &mut [u8; 4096], fill: usize, place: Place, store: &mut [u8]) -> usize {
+fn print_replace<W: Write>(page: &mut W, place: Place, store: &mut [u8]) -> io::Result<()> {
     let replaced = replace(store, place.index, place.x, place.y, place.radius);
-    let gap = page::space(page, fill);
-    print_with_bytes(page, gap, reply::of_replaced(replaced), store)
+    page::space(page)?;
+    print_with_bytes(page, reply::of_replaced(replaced), store)
 }
 
 // Keeps a path in a store, and goes on with it unless that is refused.
-fn print_store(
-    page: &mut [u8; 4096],
-    fill: usize,
+fn print_store<W: Write>(
+    page: &mut W,
     grade: u32,
     damage: Damage,
     place: Place,
     path: &[i32],
     room: &mut [i32],
     store: &mut [u8],
-) -> usize {
+) -> io::Result<()> {
     canary::fill_bytes(store);
     let kept = reply::of_kept(keep(path, grade, store));
-    let filled = print_with_bytes(page, fill, kept, store);
+    print_with_bytes(page, kept, store)?;
     if kept.reply != 0 {
-        return filled;
+        return Ok(());
     }
     damage_store(store, damage);
-    let back = print_read(page, filled, store, room);
-    print_replace(page, back, place, store)
+    print_read(page, store, room)?;
+    print_replace(page, place, store)
 }
 
 // The answers of the three calls, on a store of the needed bytes and `lent.room` more.
-pub fn print_edit(
-    page: &mut [u8; 4096],
-    fill: usize,
+pub fn print_edit<W: Write>(
+    page: &mut W,
     lent: Lent,
     damage: Damage,
     place: Place,
     path: &[i32],
     room: &mut [i32],
     store: &mut [u8],
-) -> usize {
+) -> io::Result<()> {
     let needed = asked(keep(path, lent.grade, &mut store[0..0]));
     let extra = lent.room;
     if store.len() < needed {
-        return no_case(page, fill);
+        return no_case(page);
     }
     if store.len() - needed < extra {
-        return no_case(page, fill);
+        return no_case(page);
     }
     let length = needed + extra;
     print_store(
         page,
-        fill,
         lent.grade,
         damage,
         place,

@@ -1,4 +1,6 @@
 // Why a call is refused, and the rows that several calls share.
+#![tactic(auto)]
+
 pub mod path_rows;
 pub mod refusals;
 pub mod style_rows;

@@ -6,6 +6,8 @@ use crate::print::print_answer;
 use lines::line::read_numbers;
 use lines::page;
 use plane::direction::step;
+use std::io;
+use std::io::Write;
 
 // How many numbers a case of this code has, its code among them; more than are read if there is no such code.
 fn count_of(code: u64) -> usize {
@@ -59,38 +61,36 @@ fn answer_of(code: u64, minus: &[bool; 16], sizes: &[u64; 16], out: &mut [i32]) 
 }
 
 // The answer to the case whose numbers were read.
-fn print_case(
-    page: &mut [u8; 4096],
-    fill: usize,
+fn print_case<W: Write>(
+    page: &mut W,
     count: usize,
     minus: &[bool; 16],
     sizes: &[u64; 16],
     out: &mut [i32],
-) -> usize {
+) -> io::Result<()> {
     let code = sizes[0];
     if minus[0] {
-        return page::text(page, fill, b"no case");
+        return page::text(page, b"no case");
     }
     if count != count_of(code) {
-        return page::text(page, fill, b"no case");
+        return page::text(page, b"no case");
     }
     let answer = answer_of(code, minus, sizes, out);
-    print_answer(page, fill, answer, out)
+    print_answer(page, answer, out)
 }
 
 // The answer to a line, and a line end.
-pub fn print_line(
-    page: &mut [u8; 4096],
-    fill: usize,
+pub fn print_line<W: Write>(
+    page: &mut W,
     line: &[u8],
     minus: &mut [bool; 16],
     sizes: &mut [u64; 16],
     out: &mut [i32],
-) -> usize {
+) -> io::Result<()> {
     let read = read_numbers(line, 0, 16, minus, sizes);
     if read.at < line.len() {
-        return page::text(page, fill, b"no case\n");
+        return page::text(page, b"no case\n");
     }
-    let filled = print_case(page, fill, read.count, minus, sizes, out);
-    page::line_end(page, filled)
+    print_case(page, read.count, minus, sizes, out)?;
+    page::line_end(page)
 }

@@ -4,44 +4,43 @@ use cases::entries::long;
 use contacts::{Exactness, Section, Trend};
 use lines::page;
 use plane::Point;
+use std::io;
+use std::io::Write;
 use turning::Edge;
 
 // A number after a space.
-fn after_space(page: &mut [u8; 4096], fill: usize, value: i64) -> usize {
-    let gap = page::space(page, fill);
-    page::signed(page, gap, value)
+fn after_space<W: Write>(page: &mut W, value: i64) -> io::Result<()> {
+    page::space(page)?;
+    page::signed(page, value)
 }
 
 // Each of the numbers after a space.
-fn print_numbers(page: &mut [u8; 4096], fill: usize, numbers: &[i32]) -> usize {
-    let mut filled = fill;
-    let mut i = 0;
-    while i < numbers.len() {
-        filled = after_space(page, filled, long(numbers[i]));
-        i += 1;
+fn print_numbers<W: Write>(page: &mut W, numbers: &[i32]) -> io::Result<()> {
+    for number in numbers {
+        after_space(page, long(*number))?;
     }
-    filled
+    Ok(())
 }
 
 // How many edges, and the four numbers of each; `count` numbers from the front of the room, if it has so many.
-fn print_edges(page: &mut [u8; 4096], fill: usize, out: &[i32], count: usize) -> usize {
+fn print_edges<W: Write>(page: &mut W, out: &[i32], count: usize) -> io::Result<()> {
     if out.len() < count {
-        return page::text(page, fill, b"outside");
+        return page::text(page, b"outside");
     }
-    let filled = page::unsigned(page, fill, (count / 4) as u64);
-    print_numbers(page, filled, &out[0..count])
+    page::unsigned(page, (count / 4) as u64)?;
+    print_numbers(page, &out[0..count])
 }
 
 // The two numbers of a point.
-fn print_point(page: &mut [u8; 4096], fill: usize, p: Point) -> usize {
-    let filled = after_space(page, fill, p.x);
-    after_space(page, filled, p.y)
+fn print_point<W: Write>(page: &mut W, p: Point) -> io::Result<()> {
+    after_space(page, p.x)?;
+    after_space(page, p.y)
 }
 
 // The two points of an edge.
-fn print_edge(page: &mut [u8; 4096], fill: usize, e: Edge) -> usize {
-    let filled = print_point(page, fill, e.a);
-    print_point(page, filled, e.b)
+fn print_edge<W: Write>(page: &mut W, e: Edge) -> io::Result<()> {
+    print_point(page, e.a)?;
+    print_point(page, e.b)
 }
 
 // The number of a trend.
@@ -54,30 +53,28 @@ fn number_of(trend: Trend) -> i64 {
 }
 
 // Whether the two ends of a side are exact, 1 or 0.
-fn print_exact(page: &mut [u8; 4096], fill: usize, e: Exactness) -> usize {
-    let filled = after_space(page, fill, e.a as i64);
-    after_space(page, filled, e.b as i64)
+fn print_exact<W: Write>(page: &mut W, e: Exactness) -> io::Result<()> {
+    after_space(page, e.a as i64)?;
+    after_space(page, e.b as i64)
 }
 
 // The kind of a step, the contacts of its section, the trend, and which contacts are exact.
-fn print_contacts(page: &mut [u8; 4096], fill: usize, kind: u64, s: Section) -> usize {
-    let trend = s.trend;
-    let first = page::unsigned(page, fill, kind);
-    let left = print_edge(page, first, s.left);
-    let right = print_edge(page, left, s.right);
-    let filled = after_space(page, right, number_of(trend));
-    let exact = s.exact;
-    let left_exact = print_exact(page, filled, exact.left);
-    print_exact(page, left_exact, exact.right)
+fn print_contacts<W: Write>(page: &mut W, kind: u64, s: Section) -> io::Result<()> {
+    page::unsigned(page, kind)?;
+    print_edge(page, s.left)?;
+    print_edge(page, s.right)?;
+    after_space(page, number_of(s.trend))?;
+    print_exact(page, s.exact.left)?;
+    print_exact(page, s.exact.right)
 }
 
 // The answer, with the room that its edges are in.
-pub fn print_answer(page: &mut [u8; 4096], fill: usize, answer: Answer, out: &[i32]) -> usize {
+pub fn print_answer<W: Write>(page: &mut W, answer: Answer, out: &[i32]) -> io::Result<()> {
     match answer {
-        Answer::Edges(count) => print_edges(page, fill, out, count),
-        Answer::Broken => page::text(page, fill, b"0"),
-        Answer::Contacts(kind, s) => print_contacts(page, fill, kind, s),
-        Answer::Covers(covered) => page::unsigned(page, fill, covered as u64),
-        Answer::Outside => page::text(page, fill, b"outside"),
+        Answer::Edges(count) => print_edges(page, out, count),
+        Answer::Broken => page::text(page, b"0"),
+        Answer::Contacts(kind, s) => print_contacts(page, kind, s),
+        Answer::Covers(covered) => page::unsigned(page, covered as u64),
+        Answer::Outside => page::text(page, b"outside"),
     }
 }

@@ -6,6 +6,8 @@ use crate::answer::Answer;
 use lines::line::read_numbers;
 use lines::page;
 use lines::token::Number;
+use std::io;
+use std::io::Write;
 
 // The number at a place.
 fn number_at(minus: &[bool; 16], sizes: &[u64; 16], i: usize) -> Number
@@ -43,63 +45,61 @@ fn answer_of(code: u64, a: Number, b: Number, c: Number, d: Number) -> Answer {
 }
 
 // Two numbers with a space between them.
-fn print_two(page: &mut [u8; 4096], fill: usize, x: i64, y: i64) -> usize {
-    let first = page::signed(page, fill, x);
-    let gap = page::space(page, first);
-    page::signed(page, gap, y)
+fn print_two<W: Write>(page: &mut W, x: i64, y: i64) -> io::Result<()> {
+    page::signed(page, x)?;
+    page::space(page)?;
+    page::signed(page, y)
 }
 
 // Two limbs with a space between them.
-fn print_limbs(page: &mut [u8; 4096], fill: usize, high: u64, low: u64) -> usize {
-    let first = page::unsigned(page, fill, high);
-    let gap = page::space(page, first);
-    page::unsigned(page, gap, low)
+fn print_limbs<W: Write>(page: &mut W, high: u64, low: u64) -> io::Result<()> {
+    page::unsigned(page, high)?;
+    page::space(page)?;
+    page::unsigned(page, low)
 }
 
 // An answer as text.
-fn print_answer(page: &mut [u8; 4096], fill: usize, answer: Answer) -> usize {
+fn print_answer<W: Write>(page: &mut W, answer: Answer) -> io::Result<()> {
     match answer {
-        Answer::One(x) => page::signed(page, fill, x),
-        Answer::Two(x, y) => print_two(page, fill, x, y),
-        Answer::Limbs(high, low) => print_limbs(page, fill, high, low),
-        Answer::Outside => page::text(page, fill, b"outside"),
+        Answer::One(x) => page::signed(page, x),
+        Answer::Two(x, y) => print_two(page, x, y),
+        Answer::Limbs(high, low) => print_limbs(page, high, low),
+        Answer::Outside => page::text(page, b"outside"),
     }
 }
 
 // The answer to the case whose numbers were read.
-fn print_case(
-    page: &mut [u8; 4096],
-    fill: usize,
+fn print_case<W: Write>(
+    page: &mut W,
     count: usize,
     minus: &[bool; 16],
     sizes: &[u64; 16],
-) -> usize {
+) -> io::Result<()> {
     let code = sizes[0];
     if minus[0] {
-        return page::text(page, fill, b"no case");
+        return page::text(page, b"no case");
     }
     if count != count_of(code) {
-        return page::text(page, fill, b"no case");
+        return page::text(page, b"no case");
     }
     let a = number_at(minus, sizes, 1);
     let b = number_at(minus, sizes, 2);
     let c = number_at(minus, sizes, 3);
     let d = number_at(minus, sizes, 4);
-    print_answer(page, fill, answer_of(code, a, b, c, d))
+    print_answer(page, answer_of(code, a, b, c, d))
 }
 
 // The answer to a line, and a line end.
-pub fn print_line(
-    page: &mut [u8; 4096],
-    fill: usize,
+pub fn print_line<W: Write>(
+    page: &mut W,
     line: &[u8],
     minus: &mut [bool; 16],
     sizes: &mut [u64; 16],
-) -> usize {
+) -> io::Result<()> {
     let read = read_numbers(line, 0, 16, minus, sizes);
     if read.at < line.len() {
-        return page::text(page, fill, b"no case\n");
+        return page::text(page, b"no case\n");
     }
-    let filled = print_case(page, fill, read.count, minus, sizes);
-    page::line_end(page, filled)
+    print_case(page, read.count, minus, sizes)?;
+    page::line_end(page)
 }

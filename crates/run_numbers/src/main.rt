@@ -1,34 +1,39 @@
 // Reads cases of roots, products, quotients, directions, steps, rotations, scalings and shifts, one a line, and prints the answer to each.
+#![tactic(auto)]
+
 mod answer;
 mod case;
 
-use libc::STDIN_FILENO;
 use lines::{line, page};
+use std::io;
+use std::io::{BufWriter, Read, Write};
 
-// The answer to each line of the text; how much of the page is filled then.
-fn answers(
+// As much of the input as is read.
+const TEXT: u64 = 262144;
+
+// The answer to each line of the text.
+fn answers<W: Write>(
     text: &[u8],
-    page: &mut [u8; 4096],
+    page: &mut W,
     minus: &mut [bool; 16],
     sizes: &mut [u64; 16],
-) -> usize {
-    let mut fill: usize = 0;
+) -> io::Result<()> {
     let mut at: usize = 0;
     while at < text.len() {
         let end = line::end(text, at);
-        fill = case::print_line(page, fill, &text[at..end], minus, sizes);
+        case::print_line(page, &text[at..end], minus, sizes)?;
         at = end + 1;
     }
-    fill
+    Ok(())
 }
 
 // Owns the text, the page and the numbers of a line, and lends them.
-fn main() {
-    let mut text = [0u8; 262144];
-    let mut page = [0u8; 4096];
+fn main(rt: HostRuntime) -> io::Result<()> {
+    let mut text = Vec::new(rt.alloc());
+    let mut page = BufWriter::new(rt.alloc(), io::writer(&rt))?;
     let mut minus = [false; 16];
     let mut sizes = [0u64; 16];
-    let count = io::read_full(STDIN_FILENO, &mut text);
-    let fill = answers(&text[..count], &mut page, &mut minus, &mut sizes);
-    page::finish(&page, fill);
+    rt.reader().take(TEXT).read_to_end(&mut text)?;
+    answers(&text, &mut page, &mut minus, &mut sizes)?;
+    page::finish(&mut page)
 }

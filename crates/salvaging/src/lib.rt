@@ -1,4 +1,6 @@
 // salvage: a sound outline from the header and the vertices of a store, and notes of what differed; document 02, request 14.
+#![tactic(auto)]
+
 ghost use Rattle.std.specs.Prelude.{◌≤◌, length};
 ghost use Rattle.salvaging.specs.Salvaging.{Salvages};
 

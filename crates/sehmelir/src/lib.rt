@@ -1,4 +1,6 @@
 // The calls for C and Rust: numbers and slices only.
+#![tactic(auto)]
+
 ghost use Rattle.std.specs.Prelude.{◌≡◌, pos};
 ghost use Rattle.turning.specs.Bounds.{Radius};
 ghost use Rattle.outline.specs.Theorems.{FormWithin};

@@ -1,4 +1,6 @@
 // Side by side: of two lent sheets, one from before an edit and one from after it, the body of a vertex as a part of the chosen one; document 02, request 10.
+#![tactic(auto)]
+
 ghost use Rattle.std.specs.Prelude.{◌≡◌, ◌-◌, ◌≤◌, eqb, length, take, drop};
 ghost use Rattle.outline.specs.Layout.{kerb_kind, kind_word};
 ghost use Rattle.checking.specs.StoreChecks.{Sound};

@@ -1,1 +1,2 @@
 // Theorems over several calls, and the marked examples: no code.
+#![tactic(auto)]

@@ -1,4 +1,6 @@
 // Edges, and how an arc turns from one to the next; follows src/mesh/int/arc/integer.rs.
+#![tactic(auto)]
+
 use plane::{Point, Vector};
 
 pub mod edges;

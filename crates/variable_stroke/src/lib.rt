@@ -1,4 +1,6 @@
 // Chains of sections, and the walk that makes them step by step; follows builder.rs of src/mesh/int/variable_stroke.
+#![tactic(auto)]
+
 use contacts::{Last, Vertex};
 use joins::Cap;
 

@@ -1,1 +1,2 @@
 // Laws of whole numbers, signed and not; no code.
+#![tactic(auto)]

@@ -3,9 +3,7 @@ use Rattle.std.proofs.Common.{◌≡◌, ◌+◌, ◌-◌, ◌≤◌, length}
 use Rattle.replay.proofs.answers.Given as goal
 
 abbrev pub invariant-loop-at : goal.invariant-loop-at
-invariant-loop-at l =
-    (l.at ≤ length l.text + 1) × (length l.path ≡ length l.initial.path) × (length l.room ≡ length l.initial.room) × (length l.store ≡ length l.initial.store)
+invariant-loop-at g l = (l.at ≤ length l.text + 1) × (length l.path ≡ length l.initial.path) × (length l.room ≡ length l.initial.room) × (length l.store ≡ length l.initial.store)
 
 abbrev pub decreases-loop-at : goal.decreases-loop-at
-decreases-loop-at l =
-    length l.text + 1 - l.at
+decreases-loop-at g l = length l.text + 1 - l.at

@@ -1,10 +1,6 @@
--- `cases::checksum::of_numbers` is safe and ends: the sum stays below 2^32. Assumes nothing.
-use Prim.Native.Nat.{◌-◌, ◌^◌, ◌≤◌, ◌<◌}
-use lib.ListN.{length}
+-- `cases::checksum::of_numbers` is safe: each sum is a rest, and has 32 bits.
+use Rattle.std.proofs.Common.{◌^◌, ◌<◌}
 use Rattle.cases.proofs.checksum.of_numbers.Given as goal
 
-abbrev pub invariant-loop-i : goal.invariant-loop-i
-invariant-loop-i l = (l.i ≤ length l.memory) × (l.sum < 2 ^ 32)
-
-abbrev pub decreases-loop-i : goal.decreases-loop-i
-decreases-loop-i l = length l.memory - l.i
+abbrev pub invariant-loop-entry : goal.invariant-loop-entry
+invariant-loop-entry l = l.sum < 2 ^ 32

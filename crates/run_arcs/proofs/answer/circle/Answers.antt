@@ -1,5 +1,5 @@
 -- `run_arcs::answer::circle` is safe: the vertex is allowed, and a circle has few edges. Assumes nothing.
-use native.Mathlib.Omega.{arith}
+use Rattle.std.proofs.Common.{arith}
 use Rattle.turning.proofs.Limits.{radius_told_lem}
 use Rattle.turning.proofs.Most.{circle_most}
 use Rattle.run_arcs.proofs.Guards.{inside_told, centre_told, few_room}

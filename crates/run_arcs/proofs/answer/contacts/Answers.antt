@@ -1,5 +1,5 @@
 -- `run_arcs::answer::contacts` is safe: both vertices are allowed, and a drawn or thin step is not broken. Assumes nothing.
-use mathlib.Core.Path.{sym, ◌∙◌}
+use Rattle.std.proofs.Common.{sym, ◌∙◌}
 use Rattle.contacts.proofs.Steps.{drawn_whole, thin_whole}
 use Rattle.run_arcs.proofs.Guards.{inside_told}
 use Rattle.run_arcs.proofs.answer.contacts.Goals as goal

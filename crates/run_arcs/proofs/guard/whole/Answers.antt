@@ -1,20 +1,11 @@
 -- `run_arcs::guard::whole` meets its contract: both vertices are allowed, and the kind of the step was looked at. Assumes nothing.
-use mathlib.Core.Path.{sym, ◌∙◌}
+use Rattle.std.proofs.Common.{sym, ◌∙◌}
 use Rattle.contacts.proofs.Steps.{drawn_whole, thin_whole}
-use Rattle.run_arcs.proofs.Guards.{refused, inside_told}
+use Rattle.run_arcs.proofs.Guards.{inside_told}
 use Rattle.run_arcs.proofs.guard.whole.Goals as goal
-
-pub returns-then-not-allowed : goal.returns-then-not-allowed
-returns-then-not-allowed c = λ e. refused e
-
-pub returns-then-not-allowed-2 : goal.returns-then-not-allowed-2
-returns-then-not-allowed-2 c = λ e. refused e
 
 pub kind-k-requires : goal.kind-k-requires
 kind-k-requires c = (inside_told c.allowed.ensures c.if-not-allowed.false, inside_told c.allowed-2.ensures c.if-not-allowed-2.false)
-
-pub returns-in-Broken : goal.returns-in-Broken
-returns-in-Broken c = λ e. refused e
 
 pub returns-in-Drawn : goal.returns-in-Drawn
 returns-in-Drawn c =

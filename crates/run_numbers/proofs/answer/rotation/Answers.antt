@@ -2,12 +2,6 @@
 use Rattle.run_numbers.proofs.Guards.{sizes_unit}
 use Rattle.run_numbers.proofs.answer.rotation.Goals as goal
 
-pub vector-requires : goal.vector-requires
-vector-requires c = let h = c.square.ensures c.if-square-gt1152921504606846976.false in (h.0, h.1)
-
-pub vector-requires-2 : goal.vector-requires-2
-vector-requires-2 c = let h = c.square-2.ensures c.if-square-gt1152921504606846976-2.false in (h.0, h.1)
-
 pub rotated-way-requires : goal.rotated-way-requires
 rotated-way-requires c =
     let v = c.vector.ensures in
