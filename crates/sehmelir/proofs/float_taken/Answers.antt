@@ -1,14 +1,16 @@
 -- `sehmelir::float_taken` meets its contract: each answer has its numbers. Assumes nothing.
-use mathlib.Core.Path.{refl}
+use mathlib.Core.Path.{◌≡◌, refl}
 use mir.Syntax.{w32}
-use mir.ValLaws.{to_z-of_z}
+use mir.Val.{to_z, of_z}
 use borrow.Author.Rules.{rules}
 use Rattle.oldest.specs.Taken.{reason_of, whole_in}
 use Rattle.sehmelir.proofs.Told.{tells_whole, tells_reason}
 use Rattle.sehmelir.proofs.float_taken.Goals as goal
 
 pub returns-in-Whole : goal.returns-in-Whole
-returns-in-Whole c = tells_whole c.in-Whole.is refl (to_z-of_z w32 c.t-1.given.0.0 (search (rules, c.known_told-1.given)))
+returns-in-Whole c =
+    let told : to_z w32 (of_z w32 c.in-Whole.n) ≡ c.in-Whole.n = search rules in
+    tells_whole c.in-Whole.is refl told
 
 pub returns-in-NotANumber : goal.returns-in-NotANumber
 unfolding reason_of whole_in
