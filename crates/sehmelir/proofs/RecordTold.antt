@@ -17,7 +17,7 @@ use Rattle.keeping.specs.declared.Kept.{Kept}
 use Rattle.keeping.proofs.KeepAnswers.{keeps_refused}
 use Rattle.record_paths.specs.RecordPaths.{CountSays}
 use Rattle.record_paths.proofs.WantedRecords.{gathered_is, gathered_posts}
-use Rattle.sehmelir.specs.Boundary.{Replies, DrawReplies, KeepReplies}
+use Rattle.sehmelir.specs.Boundary.{Replies, DrawReplies}
 use Rattle.sehmelir.specs.RecordBoundary.{DrawGatheredReplies, KeepGatheredReplies}
 use Rattle.sehmelir.specs.declared.Reply.{Reply}
 use Rattle.sehmelir.proofs.Told.{told_as}

@@ -1,5 +1,5 @@
 -- A salvage's reply from what the code has put into it, and that a promise allows one. Assumes nothing.
-use mathlib.Core.Path.{◌≡◌, sym, ap, ◌∙◌}
+use mathlib.Core.Path.{◌≡◌, sym, ◌∙◌}
 use Prim.Native.Nat.{ℕ}
 use Rattle.replies.specs.Replies.{Reply as Answer}
 use Rattle.replies.specs.Refusals.{refusal_of, Codes}

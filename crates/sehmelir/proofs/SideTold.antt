@@ -9,7 +9,7 @@ use lib.ListN.{length}
 use Rattle.replies.specs.Refusals.{refusal_of}
 use Rattle.replies.specs.declared.Refusal.{Refusal}
 use Rattle.replies.proofs.Rows.{refusal_some}
-use Rattle.sides.specs.Sides.{chosen, reply_of_located, offset_of_located, length_of_located, Locates}
+use Rattle.sides.specs.Sides.{reply_of_located, offset_of_located, length_of_located, Locates}
 use Rattle.sides.specs.declared.Sheet.{Sheet}
 use Rattle.sides.specs.declared.Sheet.TheVariants.{Before, After}
 use Rattle.sides.specs.declared.Located.{Located}
