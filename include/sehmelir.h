@@ -3,7 +3,7 @@
  *
  * Link with libsehmelir.a, which `tools/archive` writes to target/archive/ for
  * Linux on x86-64 (x86-64-v2, as processors are since 2009). Of other libraries
- * it needs only C's memcpy, memmove and memset.
+ * it needs only C's memcpy and memset.
  *
  * A PATH is lent as 32-bit numbers, three for each vertex: x, y, radius.
  * x and y go from -268,435,456 to 268,435,456, the radius from 0 to
