@@ -1,4 +1,7 @@
-// An answer as text: reply, number, grade, the checksum and length of the lent memory, and short memory whole.
+// An answer as text: reply, number, grade, the checksum and length of the lent memory, and short memory whole. What the page held stays at its front,
+// also where writing fails.
+ghost use Rattle.lines.specs.Pages.{Grows};
+
 use crate::checksum;
 use crate::entries::long;
 use lines::page;
@@ -15,13 +18,17 @@ pub struct Reply {
 }
 
 // A number and a space.
-fn spaced<W: Write>(page: &mut W, value: u64) -> io::Result<()> {
+fn spaced<W: Write>(page: &mut W, value: u64) -> io::Result<()>
+    ensures { Grows (W.contents page.old) (W.contents page.new) }
+{
     page::unsigned(page, value)?;
     page::space(page)
 }
 
 // The five numbers of an answer.
-fn print_head<W: Write>(page: &mut W, reply: Reply, sum: u64, length: usize) -> io::Result<()> {
+fn print_head<W: Write>(page: &mut W, reply: Reply, sum: u64, length: usize) -> io::Result<()>
+    ensures { Grows (W.contents page.old) (W.contents page.new) }
+{
     spaced(page, reply.reply)?;
     spaced(page, reply.number)?;
     spaced(page, reply.grade)?;
@@ -30,7 +37,9 @@ fn print_head<W: Write>(page: &mut W, reply: Reply, sum: u64, length: usize) -> 
 }
 
 // Each of the numbers after a space.
-fn print_each_number<W: Write>(page: &mut W, memory: &[i32]) -> io::Result<()> {
+fn print_each_number<W: Write>(page: &mut W, memory: &[i32]) -> io::Result<()>
+    ensures { Grows (W.contents page.old) (W.contents page.new) }
+{
     page::text(page, b" :")?;
     for entry in memory {
         page::space(page)?;
@@ -40,7 +49,9 @@ fn print_each_number<W: Write>(page: &mut W, memory: &[i32]) -> io::Result<()> {
 }
 
 // Each of the bytes after a space.
-fn print_each_byte<W: Write>(page: &mut W, memory: &[u8]) -> io::Result<()> {
+fn print_each_byte<W: Write>(page: &mut W, memory: &[u8]) -> io::Result<()>
+    ensures { Grows (W.contents page.old) (W.contents page.new) }
+{
     page::text(page, b" :")?;
     for byte in memory {
         page::space(page)?;
@@ -50,7 +61,9 @@ fn print_each_byte<W: Write>(page: &mut W, memory: &[u8]) -> io::Result<()> {
 }
 
 // The answer of a call that was lent numbers.
-pub fn print_with_numbers<W: Write>(page: &mut W, reply: Reply, memory: &[i32]) -> io::Result<()> {
+pub fn print_with_numbers<W: Write>(page: &mut W, reply: Reply, memory: &[i32]) -> io::Result<()>
+    ensures { Grows (W.contents page.old) (W.contents page.new) }
+{
     print_head(page, reply, checksum::of_numbers(memory), memory.len())?;
     if 64 < memory.len() {
         return Ok(());
@@ -59,7 +72,9 @@ pub fn print_with_numbers<W: Write>(page: &mut W, reply: Reply, memory: &[i32]) 
 }
 
 // The answer of a call that was lent bytes.
-pub fn print_with_bytes<W: Write>(page: &mut W, reply: Reply, memory: &[u8]) -> io::Result<()> {
+pub fn print_with_bytes<W: Write>(page: &mut W, reply: Reply, memory: &[u8]) -> io::Result<()>
+    ensures { Grows (W.contents page.old) (W.contents page.new) }
+{
     print_head(page, reply, checksum::of_bytes(memory), memory.len())?;
     if 64 < memory.len() {
         return Ok(());

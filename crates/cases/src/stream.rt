@@ -1,6 +1,7 @@
 // A long input through a short buffer: filled, worked through by whole lines, the rest moved to the front, filled again.
-ghost use Rattle.std.specs.Prelude.{◌≡◌, ◌+◌, ◌<◌, ◌≤◌, IfOk, length, take, drop, slice_range};
+ghost use Rattle.std.specs.Prelude.{◌≡◌, ◌+◌, ◌<◌, ◌≤◌, IfOk, OnErr, length, take, drop, slice_range};
 ghost use Rattle.std.specs.Io.KnownBytes.{Consumes, IsAtEnd};
+ghost use Rattle.cases.specs.Streams.{TakesSome};
 
 use std::io;
 use std::io::Read;
@@ -11,6 +12,7 @@ pub fn fill<R: Read>(input: &mut R, buffer: &mut [u8], filled: usize) -> io::Res
     ensures count { IfOk result (λ count. (filled ≤ count) × (count ≤ length buffer.old)) }
     ensures kept { take filled buffer.new ≡ take filled buffer.old }
     ensures read { IfOk result (λ count. Consumes (R.remaining input.old) (R.remaining input.new) (drop filled (take count buffer.new))) }
+    ensures err { OnErr result (TakesSome (R.remaining input.old) (R.remaining input.new)) }
     ensures end { IfOk result (λ count. count < length buffer.old → IsAtEnd (R.remaining input.new)) }
 {
     let mut count = filled;

@@ -1,49 +1,68 @@
-// A page of bytes to print: a writer that is lent and appended to. Behind it a buffer stands, so that a number costs no write of its own.
+// A page of bytes to print: a writer that is lent and appended to. Behind it a buffer stands, so that a number costs no write of its own. Where writing fails, what
+// the page held stays at its front.
 ghost use Rattle.std.specs.Prelude.{OnOk, [], ◌∷◌};
 ghost use Rattle.std.specs.Fmt.{decimal, signed_decimal};
 ghost use Rattle.std.specs.Io.KnownBytes.{Appends, Keeps};
+ghost use Rattle.lines.specs.Pages.{Grows};
 
+use itoa::Buffer;
 use std::io;
-use std::io::Write;
+use std::io::{ErrorKind, Write};
 
 // One byte.
 pub fn byte<W: Write>(page: &mut W, value: u8) -> io::Result<()>
-    ensures { OnOk result (Appends (W.contents page.old) (W.contents page.new) (value ∷ [])) }
+    ensures ok { OnOk result (Appends (W.contents page.old) (W.contents page.new) (value ∷ [])) }
+    ensures grows { Grows (W.contents page.old) (W.contents page.new) }
 {
-    page.write_all(&[value])
+    text(page, &[value])
 }
 
 // Each byte of a text.
 pub fn text<W: Write>(page: &mut W, bytes: &[u8]) -> io::Result<()>
-    ensures { OnOk result (Appends (W.contents page.old) (W.contents page.new) bytes.now) }
+    ensures ok { OnOk result (Appends (W.contents page.old) (W.contents page.new) bytes.now) }
+    ensures grows { Grows (W.contents page.old) (W.contents page.new) }
 {
-    page.write_all(bytes)
+    let mut done = 0;
+    while done < bytes.len() {
+        let more = page.write(&bytes[done..])?;
+        if more == 0 {
+            return Err(io::Error::from(ErrorKind::WriteZero));
+        }
+        done += more;
+    }
+    Ok(())
 }
 
 // A number in decimal digits.
 pub fn unsigned<W: Write>(page: &mut W, value: u64) -> io::Result<()>
-    ensures { OnOk result (Appends (W.contents page.old) (W.contents page.new) (decimal value)) }
+    ensures ok { OnOk result (Appends (W.contents page.old) (W.contents page.new) (decimal value)) }
+    ensures grows { Grows (W.contents page.old) (W.contents page.new) }
 {
-    write!(page, "{value}")
+    let mut digits = Buffer::new();
+    text(page, digits.format(value).as_bytes())
 }
 
 // A number in decimal digits, after a minus if it is below 0.
 pub fn signed<W: Write>(page: &mut W, value: i64) -> io::Result<()>
-    ensures { OnOk result (Appends (W.contents page.old) (W.contents page.new) (signed_decimal value)) }
+    ensures ok { OnOk result (Appends (W.contents page.old) (W.contents page.new) (signed_decimal value)) }
+    ensures grows { Grows (W.contents page.old) (W.contents page.new) }
 {
-    write!(page, "{value}")
+    let mut digits = Buffer::new();
+    text(page, digits.format(value).as_bytes())
 }
 
 // A space.
 pub fn space<W: Write>(page: &mut W) -> io::Result<()>
-    ensures { OnOk result (Appends (W.contents page.old) (W.contents page.new) (32 ∷ [])) }
+    ensures ok { OnOk result (Appends (W.contents page.old) (W.contents page.new) (32 ∷ [])) }
+    ensures grows { Grows (W.contents page.old) (W.contents page.new) }
 {
     byte(page, b' ')
 }
 
 // A line end.
 pub fn line_end<W: Write>(page: &mut W) -> io::Result<()>
-    ensures { OnOk result (Appends (W.contents page.old) (W.contents page.new) (10 ∷ [])) }
+    ensures ok { OnOk result (Appends (W.contents page.old) (W.contents page.new) (10 ∷ [])) }
+    ensures grows { Grows (W.contents page.old) (W.contents page.new) }
 {
     byte(page, b'\n')
 }
