@@ -64,21 +64,21 @@ pub fn arc(
         return ring(out, at, pen, c, p, q);
     }
     // a join that bends by less than a step has no inner point, and needs no root
-    let t = pen.step;
-    let next = rotated(t, d);
+    let next = rotated(pen.step, d);
     if stops(cross(d, e), d, next, e) {
         return edge(out, at, p, q);
     }
     let radius = rounded(k) as i64;
     let r = Turning {
-        step: t,
+        step: pen.step,
         centre: c,
-        radius: radius,
+        radius,
         to: q,
         toward: e,
     };
     if pen.folds {
-        return fold(out, at, r, d, p);
+        fold(out, at, r, d, p)
+    } else {
+        turns(out, at, r, d, p)
     }
-    turns(out, at, r, d, p)
 }

@@ -15,7 +15,17 @@ use half_turn::finest::finest;
 use leaps::turns::turns;
 use plane::{Point, Vector};
 use turning::Turning;
-use turning::turn::moved;
+
+// Due east and due west: where the two arcs of a circle start.
+pub const EASTWARD: Vector = Vector {
+    x: 0x4000_0000,
+    y: 0,
+};
+
+pub const WESTWARD: Vector = Vector {
+    x: -0x4000_0000,
+    y: 0,
+};
 
 // From p, in the direction d, to q, in the direction e, about c by steps of the pen, the inner points at the radius.
 pub fn swept(
@@ -34,18 +44,18 @@ pub fn swept(
     requires room { Room edge_numbers at (swept_of pen.step c radius p q) }
     ensures { Lays pen.step pen.folds out.old at (swept_of pen.step c radius p q) out.new result }
 {
-    let t = pen.step;
     let r = Turning {
-        step: t,
+        step: pen.step,
         centre: c,
-        radius: radius,
+        radius,
         to: q,
         toward: e,
     };
     if pen.folds {
-        return fold(out, at, r, d, p);
+        fold(out, at, r, d, p)
+    } else {
+        turns(out, at, r, d, p)
     }
-    turns(out, at, r, d, p)
 }
 
 // The point of a circle farthest to the east.
@@ -54,7 +64,7 @@ pub fn east(c: Point, radius: i64) -> Point
     ensures { result ≡ east_of c radius }
 {
     Point {
-        x: moved(c.x, radius),
+        x: c.x + radius,
         y: c.y,
     }
 }
@@ -65,7 +75,7 @@ pub fn west(c: Point, radius: i64) -> Point
     ensures { result ≡ west_of c radius }
 {
     Point {
-        x: moved(c.x, 0 - radius),
+        x: c.x - radius,
         y: c.y,
     }
 }
@@ -81,19 +91,12 @@ fn turned_circle(out: &mut [i32], at: usize, pen: Pen, c: Point, radius: i64) ->
     }
     let e = east(c, radius);
     let w = west(c, radius);
-    let eastward = Vector {
-        x: 0x4000_0000,
-        y: 0,
-    };
-    let westward = Vector {
-        x: -0x4000_0000,
-        y: 0,
-    };
-    let n = swept(out, at, pen, c, radius, e, eastward, w, westward);
+    let n = swept(out, at, pen, c, radius, e, EASTWARD, w, WESTWARD);
     if !pen.folds && out.len() <= at {
-        return n + (n - at);
+        n + (n - at)
+    } else {
+        swept(out, n, pen, c, radius, w, WESTWARD, e, EASTWARD)
     }
-    swept(out, n, pen, c, radius, w, westward, e, eastward)
 }
 
 // A circle, or nothing where the radius is 1 or less: from the table, where that has its directions.
@@ -102,9 +105,9 @@ pub fn circle(out: &mut [i32], at: usize, pen: Pen, c: Point, radius: i64) -> us
     requires room { Room edge_numbers at (circle_of pen.step c radius) }
     ensures { Lays pen.step pen.folds out.old at (circle_of pen.step c radius) out.new result }
 {
-    let t = pen.step;
-    if finest(t) {
-        return fine_circle(out, at, pen, c, radius);
+    if finest(pen.step) {
+        fine_circle(out, at, pen, c, radius)
+    } else {
+        turned_circle(out, at, pen, c, radius)
     }
-    turned_circle(out, at, pen, c, radius)
 }

@@ -7,11 +7,11 @@ ghost use Rattle.turning.specs.Arcs.{circle_of};
 ghost use Rattle.turning.specs.Bounds.{Centre, Radius};
 ghost use Rattle.folds.specs.Pens.{Lays};
 
-use crate::circle::{east, west};
+use crate::circle::{EASTWARD, WESTWARD, east, west};
 use folds::Pen;
 use folds::folding::fold_counted;
 use half_turn::half_turns;
-use plane::{Point, Vector};
+use plane::Point;
 use turning::Turning;
 
 // From the radius 512 on every edge has length: a circle is 806 edges, and each half of it 402 rotations.
@@ -23,38 +23,29 @@ pub fn fine_circle(out: &mut [i32], at: usize, pen: Pen, c: Point, radius: i64) 
     if radius <= 1 {
         return at;
     }
-    let t = pen.step;
     let e = east(c, radius);
     let w = west(c, radius);
-    let eastward = Vector {
-        x: 0x4000_0000,
-        y: 0,
-    };
-    let westward = Vector {
-        x: -0x4000_0000,
-        y: 0,
-    };
     let r = Turning {
-        step: t,
+        step: pen.step,
         centre: c,
-        radius: radius,
+        radius,
         to: w,
-        toward: westward,
+        toward: WESTWARD,
     };
     let s = Turning {
-        step: t,
+        step: pen.step,
         centre: c,
-        radius: radius,
+        radius,
         to: e,
-        toward: eastward,
+        toward: EASTWARD,
     };
     if pen.folds && 512 <= radius {
-        let n = fold_counted(out, at, r, eastward, e, 402);
-        return fold_counted(out, n, s, westward, w, 402);
+        let n = fold_counted(out, at, r, EASTWARD, e, 402);
+        fold_counted(out, n, s, WESTWARD, w, 402)
+    } else if out.len() <= at && 512 <= radius {
+        at + 3224
+    } else {
+        let n = half_turns(out, at, r, e, false);
+        half_turns(out, n, s, w, true)
     }
-    if out.len() <= at && 512 <= radius {
-        return at + 3224;
-    }
-    let n = half_turns(out, at, r, e, false);
-    half_turns(out, n, s, w, true)
 }

@@ -13,9 +13,11 @@ ghost use Rattle.reaching.specs.Replies.{Reaches};
 
 use checking::sizes::is_small;
 use contacts::Vertex;
+use reading::Read;
+use replies::Refusal;
 
 // Draws a path's edges into lent numbers, four an edge.
-pub fn draw(path: &[i32], grade: u32, out: &mut [i32]) -> drawing::Drawn
+pub fn draw(path: &[i32], grade: u32, out: &mut [i32]) -> Result<usize, Refusal>
     ensures { Draws path.now grade out.old result out.new }
 {
     drawing::draw(path, grade, out)
@@ -29,14 +31,14 @@ pub fn draw_kerb(
     join: u32,
     closed: u32,
     out: &mut [i32],
-) -> drawing::Drawn
+) -> Result<usize, Refusal>
     ensures { DrawsKerb points.now grade radius join closed out.old result out.new }
 {
     kerb_drawing::draw_kerb(points, grade, radius, join, closed, out)
 }
 
 // Keeps a path's outline as bytes.
-pub fn keep(path: &[i32], grade: u32, out: &mut [u8]) -> keeping::Kept
+pub fn keep(path: &[i32], grade: u32, out: &mut [u8]) -> Result<usize, Refusal>
     ensures { Keeps path.now (plain_posts path.now) grade out.old result out.new }
 {
     if grade <= 4 {
@@ -55,7 +57,7 @@ pub fn keep_kerb(
     join: u32,
     closed: u32,
     out: &mut [u8],
-) -> keeping::Kept
+) -> Result<usize, Refusal>
     ensures { KeepsKerb points.now grade radius join closed out.old result out.new }
 {
     let mut own = [0i32; 8272];
@@ -63,7 +65,7 @@ pub fn keep_kerb(
 }
 
 // Reads the path of a sound outline into lent numbers, three a vertex, of a kerb two.
-pub fn read(store: &[u8], out: &mut [i32]) -> reading::Read
+pub fn read(store: &[u8], out: &mut [i32]) -> Result<Read, Refusal>
     ensures { Reads store.now out.old result out.new }
 {
     if is_small(store) {
@@ -77,7 +79,7 @@ pub fn read(store: &[u8], out: &mut [i32]) -> reading::Read
 }
 
 // Reads the posts of a sound outline of a stroke, its vertices' point numbers, into lent numbers.
-pub fn numbers(store: &[u8], out: &mut [u32]) -> reading::posts::PostsRead
+pub fn numbers(store: &[u8], out: &mut [u32]) -> Result<usize, Refusal>
     ensures { ReadsPosts store.now out.old result out.new }
 {
     if is_small(store) {
@@ -91,7 +93,7 @@ pub fn numbers(store: &[u8], out: &mut [u32]) -> reading::posts::PostsRead
 }
 
 // Replaces a vertex of a sound outline by another, in place.
-fn replace_vertex(store: &mut [u8], index: usize, v: Vertex) -> editing::Replaced
+fn replace_vertex(store: &mut [u8], index: usize, v: Vertex) -> Result<usize, Refusal>
     ensures { Replaces store.old index v result store.new }
 {
     if is_small(store) {
@@ -107,22 +109,25 @@ fn replace_vertex(store: &mut [u8], index: usize, v: Vertex) -> editing::Replace
 }
 
 // Replaces a vertex of a sound outline, in place.
-pub fn replace(store: &mut [u8], index: usize, x: i32, y: i32, radius: i32) -> editing::Replaced
+pub fn replace(
+    store: &mut [u8],
+    index: usize,
+    x: i32,
+    y: i32,
+    radius: i32,
+) -> Result<usize, Refusal>
     ensures { Replaces store.old index (record { x = x; y = y; radius = radius }) result store.new }
 {
-    let a = x as i64;
-    let b = y as i64;
-    let r = radius as i64;
     let v = Vertex {
-        x: a,
-        y: b,
-        radius: r,
+        x: i64::from(x),
+        y: i64::from(y),
+        radius: i64::from(radius),
     };
     replace_vertex(store, index, v)
 }
 
 // Tells how far replacing a vertex of a sound outline can reach.
-pub fn reach(store: &[u8], index: usize) -> reaching::Reached
+pub fn reach(store: &[u8], index: usize) -> Result<usize, Refusal>
     ensures { Reaches store.now index result }
 {
     if is_small(store) {

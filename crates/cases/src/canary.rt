@@ -1,15 +1,8 @@
 // Lent memory before a call: entry i holds i mod 251.
 
-// Lent numbers.
-pub fn fill_numbers(numbers: &mut [i32]) {
-    for (i, number) in numbers.iter_mut().enumerate() {
-        *number = (i % 251) as i32;
-    }
-}
-
-// Lent bytes.
-pub fn fill_bytes(bytes: &mut [u8]) {
-    for (i, byte) in bytes.iter_mut().enumerate() {
-        *byte = (i % 251) as u8;
+// Fills lent numbers or bytes.
+pub fn fill<E: From<u8> + Drop>(memory: &mut [E]) {
+    for (i, entry) in memory.iter_mut().enumerate() {
+        *entry = E::from((i % 251) as u8);
     }
 }

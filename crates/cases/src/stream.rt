@@ -1,10 +1,31 @@
 // A long input through a short buffer: filled, worked through by whole lines, the rest moved to the front, filled again.
 ghost use Rattle.std.specs.Prelude.{◌≡◌, ◌+◌, ◌<◌, ◌≤◌, IfOk, OnErr, length, take, drop, slice_range};
-ghost use Rattle.std.specs.Io.KnownBytes.{Consumes, IsAtEnd};
+ghost use Rattle.std.specs.Io.{ReadsAtMost};
+ghost use Rattle.std.specs.Io.KnownBytes.{Consumes, Keeps, IsAtEnd};
 ghost use Rattle.cases.specs.Streams.{TakesSome};
 
 use std::io;
-use std::io::Read;
+use std::io::{ErrorKind, Read};
+
+// One read, tried again where it is interrupted.
+fn read_some<R: Read>(input: &mut R, buffer: &mut [u8]) -> io::Result<usize>
+    ensures bound { ReadsAtMost result buffer.new }
+    ensures read { IfOk result (λ count. Consumes (R.remaining input.old) (R.remaining input.new) (take count buffer.new)) }
+    ensures end { IfOk result (λ count. count ≡ 0 → 0 < length buffer.old → IsAtEnd (R.remaining input.new)) }
+    ensures err { OnErr result (Keeps (R.remaining input.old) (R.remaining input.new)) }
+{
+    for _ in 0..u64::MAX {
+        match input.read(buffer) {
+            Ok(more) => return Ok(more),
+            Err(e) => {
+                if e.kind() != ErrorKind::Interrupted {
+                    return Err(e);
+                }
+            }
+        }
+    }
+    Err(io::Error::from(ErrorKind::Interrupted))
+}
 
 // Reads on behind the first `filled` bytes, until the buffer is full or the input ends; how many are filled then.
 pub fn fill<R: Read>(input: &mut R, buffer: &mut [u8], filled: usize) -> io::Result<usize>
@@ -17,7 +38,7 @@ pub fn fill<R: Read>(input: &mut R, buffer: &mut [u8], filled: usize) -> io::Res
 {
     let mut count = filled;
     while count < buffer.len() {
-        let more = input.read(&mut buffer[count..])?;
+        let more = read_some(input, &mut buffer[count..])?;
         if more == 0 {
             break;
         }
@@ -36,17 +57,16 @@ pub fn whole_lines(text: &[u8]) -> usize
     }
 }
 
-// How many bytes at the front can be worked through: the whole lines, or the last line if the input has ended before its line end. None if nothing
+// How many bytes at the front can be worked through: the whole lines, or the last line if the input has ended before its line end. 0 if nothing
 // is left, or if one line fills the buffer.
 pub fn ready(buffer: &[u8], filled: usize) -> usize
     requires { filled ≤ length buffer.now }
     ensures { result ≤ filled }
 {
-    let end = whole_lines(&buffer[0..filled]);
-    if 0 < end {
-        return end;
+    match whole_lines(&buffer[..filled]) {
+        0 if filled < buffer.len() => filled,
+        end => end,
     }
-    if filled < buffer.len() { filled } else { 0 }
 }
 
 // Moves the bytes between two places to the front; how many there are.

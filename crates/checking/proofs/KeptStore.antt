@@ -18,7 +18,6 @@ use Rattle.outline.specs.Layout.{first_edition, second_edition, edition_number, 
 use Rattle.outline.specs.Outlines.{join_word, closed_word, style_words, header_of, parts_words, outline_words, outline_bytes}
 use Rattle.outline.specs.Stores.{edition_in, kind_in, count_in}
 use Rattle.outline.specs.Theorems.{Formed}
-use Rattle.outline.specs.declared.Edition.{Edition}
 use Rattle.outline.specs.declared.Edition.TheVariants.{First, Second}
 use Rattle.outline.specs.declared.Form.{Form}
 use Rattle.outline.specs.declared.Form.TheVariants.{Stroke, Kerb}

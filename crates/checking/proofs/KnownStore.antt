@@ -1,4 +1,5 @@
 -- A store that passed its rows is known, and is sound. Assumes nothing.
+use Rattle.std.specs.Prelude.{Result, Ok}
 use mathlib.Core.Path.{◌≡◌, sym, ap, ◌∙◌}
 use mathlib.Core.List.{List}
 use Prim.Native.Nat.{ℕ, ◌*◌, ◌≤◌}
@@ -15,17 +16,16 @@ use Rattle.outline.specs.declared.Form.{Form}
 use Rattle.outline.specs.declared.Form.TheVariants.{Stroke}
 use Rattle.outline.proofs.ReadBack.{path_count_in, numbers_count, outline_length}
 use Rattle.replies.specs.Replies.{Reply}
+use Rattle.replies.specs.declared.Refusal.{Refusal}
 use Rattle.replies.proofs.Rows.{first-none}
 use Rattle.heading.specs.StoreRows.{store_rows}
 use Rattle.heading.specs.declared.Header.{Header}
-use Rattle.heading.specs.declared.Checked.{Checked}
-use Rattle.heading.specs.declared.Checked.TheVariants.{Holds}
 use Rattle.checking.specs.Known.{Known, Passed}
 use Rattle.checking.specs.StoreChecks.{StoreSays}
 use Rattle.checking.proofs.OtherKinds.{stroke_passes}
 use Rattle.checking.proofs.StorePassed.{store_coded, none-due}
 
-pub passed : {s : List ℕ} {p : List ℤ} {c : Checked} {h : Header} → c ≡ Holds h → StoreSays s p c → Passed s p h
+pub passed : {s : List ℕ} {p : List ℤ} {c : Result Header Refusal} {h : Header} → c ≡ Ok h → StoreSays s p c → Passed s p h
 passed {h = h} e a = record { sound = a.sound h e; path = a.path h e }
 
 pub known : {s : List ℕ} {p : List ℤ} {h : Header} {d : Edition} → Passed s p h → h.form ≡ Stroke d → Known s p d h.grade h.n h.m

@@ -1,6 +1,7 @@
 -- What the rows of a store say to whoever reads it on: a refusal is the reply, and of a store that passed the header is known. Assumes nothing.
-use mathlib.Core.Path.{◌≡◌, refl, sym, ap, ◌∙◌}
-use mathlib.Core.List.{List, [], ◌++◌}
+use Rattle.std.specs.Prelude.{Result, Err}
+use mathlib.Core.Path.{◌≡◌, sym, ap, ◌∙◌}
+use mathlib.Core.List.{List, ◌++◌}
 use Prim.Native.Nat.{ℕ, ◌-◌, ◌*◌, ◌≤◌}
 use native.Mathlib.Nat.{sub-zero}
 use native.Mathlib.Omega.{arith}
@@ -12,7 +13,7 @@ use Rattle.turning.specs.Bounds.{Radius}
 use Rattle.kerb.specs.declared.Style.{Style}
 use Rattle.outline.specs.Layout.{header_words, front_bytes, length_of}
 use Rattle.words.specs.Words.{words_in}
-use Rattle.outline.specs.Stores.{form_in, length_in, path_in, posts_of}
+use Rattle.outline.specs.Stores.{length_in, path_in}
 use Rattle.outline.specs.declared.Edition.{Edition}
 use Rattle.outline.specs.declared.Form.{Form}
 use Rattle.outline.specs.declared.Form.TheVariants.{Stroke, Kerb}
@@ -21,32 +22,24 @@ use Rattle.replies.specs.Replies.{Reply, Row, first_row}
 use Rattle.replies.specs.Refusals.{refusal_of}
 use Rattle.replies.specs.declared.Refusal.{Refusal}
 use Rattle.replies.proofs.Rows.{rows_append}
-use Rattle.comparing.specs.Compares.{lent_path, Agrees}
-use Rattle.comparing.specs.declared.Compared.{Compared}
-use Rattle.contacts.specs.declared.Vertex.{Vertex}
+use Rattle.comparing.specs.Compares.{lent_path}
 use Rattle.heading.specs.Heads.{or_store, Head}
 use Rattle.heading.specs.Shows.{lent_numbers, lent_width, shown_in, shown_path}
 use Rattle.heading.specs.StoreRows.{store_rows}
 use Rattle.heading.specs.declared.Header.{Header}
-use Rattle.heading.specs.declared.Checked.{Checked}
-use Rattle.heading.specs.declared.Checked.TheVariants.{Refused}
 use Rattle.heading.proofs.Shown.{path_back, points_back, path_front}
 use Rattle.checking.specs.StoreChecks.{Sound, StoreSays}
 
 -- ---- whatever further rows say
 
 -- a refusal of the store's rows is the reply
-pub store_refuses : {s : List ℕ} {p : List ℤ} {c : Checked} {r : Refusal} (more : List Row) (last : Reply) → StoreSays s p c → c ≡ Refused r → refusal_of r ≡ first_row (store_rows s ++ more) last
+pub store_refuses : {s : List ℕ} {p : List ℤ} {c : Result Header Refusal} {r : Refusal} (more : List Row) (last : Reply) → StoreSays s p c → c ≡ Err r → refusal_of r ≡ first_row (store_rows s ++ more) last
 unfolding or_store
-store_refuses {s} more last a e = sym (rows_append (store_rows s) more last ∙ a.says (first_row more last) ∙ ap (λ (x : Checked). or_store x (first_row more last)) e)
+store_refuses {s} more last a e = sym (rows_append (store_rows s) more last ∙ a.says (first_row more last) ∙ ap (λ (x : Result Header Refusal). or_store x (first_row more last)) e)
 
 -- where they are passed, the further rows reply
 pub store_passes : {s : List ℕ} {h : Header} (more : List Row) (last : Reply) → Sound s h → first_row (store_rows s ++ more) last ≡ first_row more last
 store_passes {s} more last a = rows_append (store_rows s) more last ∙ a.passed (first_row more last)
-
--- a kerb has no posts
-pub kerb_agrees : {s : List ℕ} {y : Style} {g : ℕ} {vs : List Vertex} {r : Compared} (n : ℕ) → Agrees s (Kerb y) g [] vs r → Agrees s (Kerb y) g (posts_of (Kerb y) n s) vs r
-kerb_agrees n h = record { table = h.table; bodies = h.bodies }
 
 -- ---- what a header says of its store
 
@@ -94,22 +87,8 @@ module _ {s : List ℕ} {h : Header} (H : Head s h) where
         ∙ shown_is
 
   -- by the form
-  pub stroke_told : {e : Edition} → h.form ≡ Stroke e → Stroke e ≡ form_in s
-  stroke_told e = sym e ∙ H.form
-
   pub stroke_front : (e : Edition) → h.form ≡ Stroke e → front_bytes (Stroke e) h.n ≤ length s
   stroke_front e q = rw q at header_long
 
-  module _ {y : Style} (e : h.form ≡ Kerb y) where
-    pub kerb_told : Kerb y ≡ form_in s
-    kerb_told = sym e ∙ H.form
-
-    pub kerb_radius : Radius y.radius
-    kerb_radius = rw e at H.within
-
-  module _ (l : List ℤ) (p : lent_path h.form l ≡ shown_path s) where
-    pub stroke_lent : {e : Edition} → h.form ≡ Stroke e → lent_path (Stroke e) l ≡ shown_path s
-    stroke_lent e = rw e at p
-
-    pub kerb_lent : {y : Style} → h.form ≡ Kerb y → lent_path (Kerb y) l ≡ shown_path s
-    kerb_lent e = rw e at p
+  pub kerb_radius : {y : Style} → h.form ≡ Kerb y → Radius y.radius
+  kerb_radius e = rw e at H.within

@@ -1,13 +1,18 @@
 -- What a store asks for of own numbers is enough for what its header says; and what a caller has of them is what it asks for. Assumes nothing.
 use mathlib.Core.Path.{◌≡◌, refl, sym, ap, ◌∙◌}
-use mathlib.Core.Bool.{Bool, true, false, ◌&&◌, ◌||◌}
+use mathlib.Core.Bool.{Bool, true, false, ◌&&◌}
 use mathlib.Core.List.{List}
 use Prim.Native.Nat.{ℕ, ◌*◌, ◌≤◌, ◌<◌}
 use native.Mathlib.Nat.{le_trans}
 use native.Mathlib.Omega.{arith}
 use borrow.Author.Tests.{ltb-true, lt-ltb, le-ltb}
 use lib.Dec.{ltb}
+use lib.IntN.{ℤ}
 use lib.ListN.{length}
+use Rattle.turning.specs.Bounds.{Radius}
+use Rattle.paths.specs.Paths.{path_of, Within}
+use Rattle.kerb_paths.specs.Points.{kerb_path}
+use Rattle.comparing.specs.Compares.{lent_path}
 use Rattle.kerb.specs.declared.Style.{Style}
 use Rattle.words.specs.Words.{word_at}
 use Rattle.outline.specs.Layout.{kind_word, front_bytes}
@@ -22,27 +27,18 @@ use Rattle.heading.specs.Heads.{Head}
 use Rattle.heading.specs.Shows.{lent_width}
 use Rattle.heading.specs.declared.Header.{Header}
 use Rattle.checking.specs.StoreRoom.{small_store, store_path, store_posts, store_own}
-use Rattle.checking.proofs.StoreReads.{header_long, header_few}
+use Rattle.checking.proofs.StoreReads.{header_long, header_few, kerb_radius}
 
 -- ---- its tests, as the code makes them: each word is that of the store
-
-pub small_short : (s : List ℕ) → length s < 24 → small_store s ≡ true
-unfolding small_store
-small_short s l = rw (lt-ltb (length s) 24 l)
 
 module _ (s : List ℕ) (long : 24 ≤ length s) {kind : ℕ} (ek : kind ≡ word_at s 1) where
   pub small_kind : 1 ≤ kind → small_store s ≡ false
   unfolding small_store kind_in
   small_kind k = rw (le-ltb (length s) 24 long, ← ek, le-ltb kind 1 k)
 
-  module _ (stroke : kind < 1) {grade : ℕ} (eg : grade ≡ word_at s 2) where
-    pub small_grade : 5 ≤ grade → small_store s ≡ false
-    unfolding small_store kind_in grade_in
-    small_grade g = rw (le-ltb (length s) 24 long, ← ek, lt-ltb kind 1 stroke, ← eg, le-ltb grade 5 g)
-
-    pub small_count : {n : ℕ} → grade < 5 → n ≡ word_at s 3 → small_store s ≡ ltb n 65
-    unfolding small_store kind_in grade_in count_in
-    small_count g en = rw (le-ltb (length s) 24 long, ← ek, lt-ltb kind 1 stroke, ← eg, lt-ltb grade 5 g, ← en)
+  pub small_grade : kind < 1 → {grade : ℕ} → grade ≡ word_at s 2 → ltb grade 5 ≡ false → small_store s ≡ false
+  unfolding small_store kind_in grade_in
+  small_grade stroke {grade} eg g = rw (le-ltb (length s) 24 long, ← ek, lt-ltb kind 1 stroke, ← eg, g)
 
 -- ---- what a header says then
 
@@ -105,6 +101,15 @@ module _ {s : List ℕ} {h : Header} (H : Head s h) where
       go : (x : Bool) → small_store s ≡ x → elim x as (λ _. ℕ) [ true ↦ 592 | false ↦ 8272 ] ≤ k → piece_numbers ≤ k
       go true e l = absurd (omega (arith, kind, (small_told e).0))
       go false e l = omega (arith, l)
+
+-- ---- what comparing asks for, by the form: p are the vertices as numbers, and k the own ones
+
+module _ {s : List ℕ} {h : Header} (H : Head s h) (p : List ℤ) (P : (h.n ≡ length (lent_path h.form p)) × Within h.grade (lent_path h.form p)) {k : ℕ} (room : store_own s ≤ k) where
+  pub stroke_compares : {e : Edition} → h.form ≡ Stroke e → (h.n ≡ length (path_of p)) × Within h.grade (path_of p) × (step_numbers h.grade ≤ k)
+  stroke_compares f = let q = rw f at P in (q.0, q.1, stroke_enough H room)
+
+  pub kerb_compares : {y : Style} → h.form ≡ Kerb y → (h.n ≡ length (kerb_path y.radius p)) × Within h.grade (kerb_path y.radius p) × Radius y.radius × (piece_numbers ≤ k)
+  kerb_compares f = let q = rw f at P in (q.0, q.1, kerb_radius H f, kerb_enough H f room)
 
 -- ---- what a caller has: of a small store few, and of any store many
 

@@ -1,4 +1,5 @@
 -- After an outline was put in: the table is sound, the key finds the bytes put, every other key finds the same bytes. Assumes nothing.
+use Rattle.std.specs.Prelude.{Option, Some, None}
 use mathlib.Core.Path.{◌≡◌, refl, sym, ap, ◌∙◌}
 use mathlib.Core.Bool.{true, false, not}
 use mathlib.Core.Logic.{◌⊎◌, inl, inr, ⊎_elim}
@@ -28,8 +29,6 @@ use Rattle.chunks.proofs.Placed.{compacted_length}
 use Rattle.chunk_laws.proofs.AfterCompact.{compacted_count, compacted_empty, compacted_used, compacted_size, compacted_holds, compacted_upto, compacted_sound, compacted_keeps}
 use Rattle.chunk_laws.proofs.Entries.{part_out, part_in_lem, over_count, over_holds, over_part, over_entry, part_found, part_same}
 use Rattle.chunk_laws.proofs.SoundEntries.{anew_sound}
-use Rattle.chunks.specs.declared.Gap.{Gap}
-use Rattle.chunks.specs.declared.Gap.TheVariants as gap
 
 -- ---- one outline put where it fits
 
@@ -139,24 +138,24 @@ module _ {c : List ℕ} {i at key : ℕ} (made : List ℕ) (f : Fitting c i at (
 
 -- ---- a gap that is found is free
 
-gap_free : (c : List ℕ) (n : ℕ) (l : List ℕ) (from : ℕ) {at : ℕ} → StandsFrom c from l → gap_from c n l from ≡ gap.At at
+gap_free : (c : List ℕ) (n : ℕ) (l : List ℕ) (from : ℕ) {at : ℕ} → StandsFrom c from l → gap_from c n l from ≡ Some at
     → (from ≤ at) × All (λ j. (offset_in c j + size_in c j ≤ at) ⊎ (at + n ≤ offset_in c j)) l
 gap_free c n [] from {at} h e = pick (less_or (length c) (from + n))
   where
     pick : (length c < from + n) ⊎ (from + n ≤ length c) → (from ≤ at) × Unit {0}
-    pick (inl t) = let q : gap.Nothing ≡ gap.At at = gap_none c n from refl refl t ∙ e in absurd (nothing_at q)
-    pick (inr t) = let q : gap.At from ≡ gap.At at = gap_last c n from refl refl t ∙ e in (omega (arith, at_same q), tt)
+    pick (inl t) = let q : None ≡ Some at = gap_none c n from refl refl t ∙ e in absurd (nothing_at q)
+    pick (inr t) = let q : Some from ≡ Some at = gap_last c n from refl refl t ∙ e in (omega (arith, at_same q), tt)
 gap_free c n (i ∷ l) from {at} h e = pick (less_or (offset_in c i) (from + n)) (gap_free c n l (offset_in c i + size_in c i) {at = at} (stands_next h))
   where
     Free : ℕ → Type 0
     Free j = (offset_in c j + size_in c j ≤ at) ⊎ (at + n ≤ offset_in c j)
 
-    pick : (offset_in c i < from + n) ⊎ (from + n ≤ offset_in c i) → (gap_from c n l (offset_in c i + size_in c i) ≡ gap.At at → (offset_in c i + size_in c i ≤ at) × All Free l) → (from ≤ at) × All Free (i ∷ l)
+    pick : (offset_in c i < from + n) ⊎ (from + n ≤ offset_in c i) → (gap_from c n l (offset_in c i + size_in c i) ≡ Some at → (offset_in c i + size_in c i ≤ at) × All Free l) → (from ≤ at) × All Free (i ∷ l)
     pick (inl t) r =
         let g = r (gap_past c n from refl {rest = l} refl refl refl t ∙ e) in
         (omega (arith, g.0, h.from.0), (inl g.0, g.1))
     pick (inr t) r =
-        let q : gap.At from ≡ gap.At at = gap_fitting c n from refl {rest = l} refl refl t ∙ e in
+        let q : Some from ≡ Some at = gap_fitting c n from refl {rest = l} refl refl t ∙ e in
         (omega (arith, at_same q), (inr (omega (arith, at_same q)), all_map (λ j. offset_in c i + size_in c i ≤ offset_in c j) Free (λ j d. inr (omega (arith, at_same q))) l h.each.0))
 
 -- ---- through the call
@@ -213,9 +212,9 @@ module _ (c : List ℕ) (key : ℕ) (made : List ℕ) (p : PassedRows c key (len
     pub fits : key < 2 ^ 32 → Fitting into (empty_entry c) place (length made) key
     pub out : put_out c key made ≡ with_outline into (empty_entry c) key place made
 
-  goes : (g : Gap) → gap_in c (length made) ≡ g → GoesInto
+  goes : (g : Option ℕ) → gap_in c (length made) ≡ g → GoesInto
   unfolding added_in gap_in in_order
-  goes (gap.At at) e =
+  goes (Some at) e =
       let r = gap_free c (length made) (in_order c) (front_in c) (in_order_stands c s) e in
       record {
         into = c;
@@ -231,9 +230,9 @@ module _ (c : List ℕ) (key : ℕ) (made : List ℕ) (p : PassedRows c key (len
           missing = none;
           short = k;
         };
-        out = passed_out ∙ ap (λ (x : Gap). added_in x c key made) e;
+        out = passed_out ∙ ap (λ (x : Option ℕ). added_in x c key made) e;
       }
-  goes gap.Nothing e = record {
+  goes None e = record {
     into = compacted_of c;
     place = end_in c;
     same = inr refl;
@@ -247,7 +246,7 @@ module _ (c : List ℕ) (key : ℕ) (made : List ℕ) (p : PassedRows c key (len
       missing = λ j d. let d' : j < entry_count c = omega (arith, compacted_count c s) in compacted_holds c s key j d' ∙ none j d';
       short = k;
     };
-    out = passed_out ∙ ap (λ (x : Gap). added_in x c key made) e;
+    out = passed_out ∙ ap (λ (x : Option ℕ). added_in x c key made) e;
   }
 
 pub put_is_sound : PutIsSound

@@ -3,26 +3,19 @@ use mathlib.Core.Path.{◌≡◌, refl, sym, ap, ◌∙◌}
 use mathlib.Core.Bool.{Bool, true, false}
 use mathlib.Core.Logic.{◌⊎◌, inl, inr, ⊎_elim}
 use mathlib.Core.List.{List, [], ◌∷◌}
-use Prim.Native.Nat.{ℕ, ◌+◌, ◌-◌, ◌≤◌, ◌<◌}
+use Prim.Native.Nat.{ℕ, suc, ◌+◌, ◌-◌, ◌≤◌, ◌<◌}
 use native.Mathlib.Omega.{arith}
 use borrow.Author.Tests.{lt-ltb, le-ltb, le-leb, eq-eqb, ne_eqb, leb-true}
 use lib.Dec.{leb}
 use lib.ListN.{length, get_or, take, drop}
-use Rattle.chunk_table.specs.Orders.{EntriesIn, strung_in, twice_from}
+use lib.Seq.{take_all}
+use Rattle.chunk_table.specs.Orders.{EntriesIn, strung_in, twice_from, twice_in}
 use Rattle.chunk_table.specs.Search.{ordered_on}
-use Rattle.chunk_table.specs.Tables.{entry_count, front_in, field_in, key_in, offset_in, size_in, used_at, damaged_in, in_order}
+use Rattle.chunk_table.specs.Tables.{entry_count, front_in, key_in, offset_in, size_in, used_at, damaged_in, in_order}
 use Rattle.chunk_table.proofs.Below.{not_both, test, less_or, same_or}
-use Rattle.chunk_table.proofs.Ordering.{All, Pairs, all_map, Ordered, ordered_is, ordered_pairs, every_ordered, each_ordered, held_entries}
+use Rattle.chunk_table.proofs.Ordering.{All, Pairs, all_map, Ordered, ordered_is, ordered_pairs, every_ordered, each_ordered}
 use Rattle.chunk_table.proofs.SoundTables.{EntriesApart, SoundTable, sound_table, table_sound}
-use Rattle.chunk_table.proofs.Standing.{Before, StandsFrom, stands_next, in_order_stands, rest_next}
-
--- one more than a place, less one
-pub spot_low : (c order : List ℕ) (field mid : ℕ) {word v : ℕ} → v ≡ field_in c field (get_or order mid 0) → v ≤ word → field_in c field (get_or order (mid + 1 - 1) 0) ≤ word
-spot_low c order field mid e h = let q : mid + 1 - 1 ≡ mid = omega arith in rw q (omega arith)
-
--- the last of them is an entry too
-pub last_in : {n m : ℕ} {order : List ℕ} → EntriesIn n order m → (m ≡ 0 → ⊥) → get_or order (m - 1) 0 < n
-last_in {m = m} h e = h.entries (m - 1) (⊎_elim (λ l. omega arith) (λ l. absurd (e (omega arith))) (less_or 0 m))
+use Rattle.chunk_table.proofs.Standing.{Before, StandsFrom, stands_next, in_order_stands}
 
 -- ---- one behind another
 
@@ -83,9 +76,23 @@ module _ (c : List ℕ) (i : ℕ) {d : List ℕ} {g : Bool} (e : twice_from c i 
   unfolding twice_from
   twice_last r = ap (twice_from c i) (sym r) ∙ e
 
-unfoldable pub twice_in : List ℕ → List ℕ → Bool
-twice_in c [] = false
-twice_in c (i ∷ l) = twice_from c i l
+-- an order is its first entry and those behind it
+behind_is : (x : ℕ) (l : List ℕ) → take (length (x ∷ l) - 1) (drop 1 (x ∷ l)) ≡ l
+behind_is x l = take_all (length (x ∷ l) - 1) l (omega arith)
+
+pub behind_entry : {n : ℕ} (order : List ℕ) → EntriesIn n order → (k : ℕ) → k < length (take (length order - 1) (drop 1 order)) → get_or (take (length order - 1) (drop 1 order)) k 0 < n
+behind_entry [] h k d = absurd (omega arith)
+behind_entry (x ∷ l) h k d = rw (behind_is x l) (h.entries (suc k) (omega (arith, ap length (behind_is x l))))
+
+pub twice_begun : (c order : List ℕ) → 1 ≤ length order → twice_from c (get_or order 0 0) (take (length order - 1) (drop 1 order)) ≡ twice_in c order
+unfolding twice_in
+twice_begun c [] h = absurd (omega arith)
+twice_begun c (x ∷ l) h = ap (twice_from c x) (behind_is x l)
+
+pub twice_none : (c order : List ℕ) → length order < 1 → false ≡ twice_in c order
+unfolding twice_in
+twice_none c [] h = refl
+twice_none c (x ∷ l) h = absurd (omega arith)
 
 -- in order of key, neighbours with other keys are strictly more and more
 strict : (c : List ℕ) (i : ℕ) (l : List ℕ) → Ordered (key_in c) (i ∷ l) → twice_from c i l ≡ false → All (λ j. key_in c i < key_in c j) l × Pairs (λ x y. key_in c x < key_in c y) l
@@ -172,16 +179,3 @@ module _ (c : List ℕ) where
         (λ h. y ∙ h ∙ ⊎_elim (λ k. sym k) (λ k. absurd (not_both h (sound_once (sound_table c k)))) (test (damaged_in c)))
         (λ h. y ∙ h ∙ sym (table_sound c (checked_sound a b d f s h)))
         (test (twice_in c by_key))
-
--- the first of those held, and the others
-pub twice_held : (c order : List ℕ) (m : ℕ) {x : Bool} → m ≤ length order → 0 < m → x ≡ twice_from c (get_or order 0 0) (drop 1 (take m order)) → x ≡ twice_in c (take m order)
-unfolding twice_in
-twice_held c order m h z e = e ∙ sym (ap (twice_in c) (rest_next order m 0 h z))
-
-pub twice_none : (c order : List ℕ) (m : ℕ) → m ≡ 0 → false ≡ twice_in c (take m order)
-unfolding twice_in
-twice_none c order m e = sym (ap (λ n. twice_in c (take n order)) e)
-
-pub order_entries : (c order : List ℕ) (m : ℕ) {n : ℕ} → take m order ≡ in_order c → m ≤ length order → n ≡ entry_count c → m ≤ 1024 → EntriesIn n order m
-unfolding in_order
-order_entries c order m e h en few = held_entries c 8 (entry_count c) m order e h (omega arith) few

@@ -2,8 +2,8 @@
 pub mod Below
 pub mod Checked
 pub mod Inserted
+pub mod Looked
 pub mod Ordering
-pub mod Shifts
 pub mod SoundTables
 pub mod Stacked
 pub mod Standing

@@ -1,13 +1,13 @@
 -- Entries that stand one before another in a chunk: where they end, and what is left of an order that is gone through. Assumes nothing.
-use mathlib.Core.Path.{◌≡◌, ◌∙◌}
+use mathlib.Core.Path.{◌≡◌}
 use mathlib.Core.Bool.{true}
 use mathlib.Core.Logic.{inl, inr, ⊎_elim}
 use mathlib.Core.List.{List, [], ◌∷◌}
 use Prim.Native.Nat.{ℕ, ◌+◌, ◌≤◌, ◌<◌}
 use native.Mathlib.Numerals.{add-one}
 use native.Mathlib.Omega.{arith}
-use lib.ListN.{length, get_or, take, drop, drop_of_length-le}
-use lib.Seq.{drop-cons, get_or-take, length-take-le}
+use lib.ListN.{length, get_or, drop, drop_of_length-le}
+use lib.Seq.{drop-cons}
 use Rattle.chunk_table.specs.Tables.{entry_count, front_in, offset_in, size_in, used_at, in_order}
 use Rattle.chunk_table.proofs.Ordering.{All, Pairs, all_map, Ordered, ordered_all, ordered_pairs, ordered_is}
 use Rattle.chunk_table.proofs.SoundTables.{EntriesApart, SoundTable, used_some}
@@ -65,12 +65,10 @@ module _ (c : List ℕ) (s : SoundTable c) where
     upto = s.table;
   }
 
--- ---- what is left of an order that is held
+-- ---- what is left of an order
 
-pub rest_next : (order : List ℕ) (m k : ℕ) → m ≤ length order → k < m → drop k (take m order) ≡ get_or order k 0 ∷ drop (k + 1) (take m order)
-rest_next order m k h d =
-    drop-cons (take m order) k 0 (omega (arith, length-take-le m order h))
-    ∙ rw (add-one k, get_or-take m order k 0 d)
+pub rest_next : (order : List ℕ) (k : ℕ) → k < length order → drop k order ≡ get_or order k 0 ∷ drop (k + 1) order
+rest_next order k h = rw (add-one k, drop-cons order k 0 h)
 
-pub rest_none : (order : List ℕ) (m k : ℕ) → m ≤ length order → m ≤ k → drop k (take m order) ≡ []
-rest_none order m k h d = drop_of_length-le (take m order) {i = k} (omega (arith, length-take-le m order h))
+pub rest_none : (order : List ℕ) (k : ℕ) → length order ≤ k → drop k order ≡ []
+rest_none order k h = drop_of_length-le order {i = k} h

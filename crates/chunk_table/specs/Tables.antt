@@ -2,6 +2,8 @@
 use Rattle.std.specs.Prelude.{Bool, not, ◌||◌, ◌&&◌, List, ℕ, ◌+◌, ◌*◌, eqb, ltb, length}
 use Rattle.words.specs.Words.{word_from}
 use Rattle.chunk_table.specs.Search.{any_below, first_from, ordered_on}
+use Rattle.chunk_table.specs.declared.table.Field.{Field}
+use Rattle.chunk_table.specs.declared.table.Field.TheVariants as field
 
 -- ---- the table, in words: number of entries, and for each its key, offset and length
 
@@ -25,9 +27,15 @@ offset_place i = 8 + 12 * i
 abbrev pub size_place : ℕ → ℕ
 size_place i = 12 + 12 * i
 
--- a word of entry i: 4 its key, 8 its offset, 12 its length
-abbrev pub field_in : List ℕ → ℕ → ℕ → ℕ
-field_in c field i = word_from c (field + 12 * i)
+-- where a word of the first entry stands
+abbrev pub field_place : Field → ℕ
+field_place field.Key = 4
+field_place field.Offset = 8
+field_place field.Size = 12
+
+-- a word of entry i
+abbrev pub field_in : List ℕ → Field → ℕ → ℕ
+field_in c f i = word_from c (field_place f + 12 * i)
 
 abbrev pub entry_count : List ℕ → ℕ
 entry_count c = word_from c 0

@@ -1,16 +1,14 @@
 -- Bytes laid over a chunk from a place on: what stands there afterwards, and what stands elsewhere. Assumes nothing.
 use mathlib.Core.Path.{◌≡◌, refl, sym, ap, ◌∙◌}
 use mathlib.Core.Logic.{◌⊎◌, inl, inr, ⊎_elim}
-use mathlib.Core.List.{List, [], ◌∷◌}
+use mathlib.Core.List.{List, [], ◌∷◌, ◌++◌, append_assoc}
 use Prim.Native.Nat.{ℕ, zero, suc, ◌+◌, ◌-◌, ◌%◌, ◌^◌, ◌≤◌, ◌<◌}
 use native.Mathlib.Nat.{add-zero}
-use native.Mathlib.Numerals.{add-one}
 use native.Mathlib.Omega.{arith}
-use lib.ListN.{length, get_or, take, drop, set, replicate, length-set, length-take, length-drop, length-replicate, get_or-replicate}
-use lib.Seq.{length-sets, get_or-set_same, get_or-set_other, get_or-take, get_or-drop, take-suc, take_all, length-take-le, ext_get_or}
+use lib.ListN.{length, get_or, take, drop, set, length-set, length-drop}
+use lib.Seq.{length-sets, sets-eq, drop-drop, get_or-set_same, get_or-set_other, get_or-drop, length-take-le, ext_get_or}
 use Rattle.runs.specs.Runs.{spread, over, Runs, put}
 use Rattle.words.specs.Words.{four_bytes, word_from}
-use Rattle.runs.proofs.Laws.{over-append}
 use Rattle.runs.proofs.Written.{over_sets}
 use Rattle.words.proofs.Bytes.{four_back}
 
@@ -38,51 +36,20 @@ over_in l a (v ∷ vs) (suc k) h m =
 pub over_in_at : (l : List ℕ) (a : ℕ) (vs : List ℕ) (j k : ℕ) → j ≡ a + k → a + length vs ≤ length l → k < length vs → get_or (over put l a vs) j 0 ≡ get_or vs k 0
 over_in_at l a vs j k e h m = ap (λ i. get_or (over put l a vs) i 0) e ∙ over_in l a vs k h m
 
--- ---- a loop that lays one byte a turn
+-- as the part of a list that a slice is, and as a paste
+pub laid_part : (l : List ℕ) (a k : ℕ) {vs ws : List ℕ} → vs ≡ ws → k ≡ length ws → a + k ≤ length l → take a l ++ (vs ++ drop k (drop a l)) ≡ over put l a ws
+laid_part l a k {vs} {ws} e f h =
+    ap (λ q. take a l ++ (q ++ drop k (drop a l))) e
+    ∙ ap (λ q. take a l ++ (ws ++ q)) (drop-drop k a l ∙ ap (λ j. drop (a + j) l) f)
+    ∙ sym (append_assoc (take a l) ws (drop (a + length ws) l))
+    ∙ sym (over_sets l a ws ∙ sets-eq ws l a (omega arith))
 
-pub record Laying (l : List ℕ) (a : ℕ) (vs : List ℕ) (j : ℕ) (s : List ℕ) : Type 0 where
-  pub out : s ≡ over put l a (take j vs)
-  pub long : length s ≡ length l
-
-pub laying_start : (l : List ℕ) (a : ℕ) (vs : List ℕ) → Laying l a vs 0 l
-unfolding over
-laying_start l a vs = record { out = refl; long = refl }
-
-module _ {l : List ℕ} {a : ℕ} {vs : List ℕ} {j : ℕ} {s : List ℕ} (h : Laying l a vs j s) where
-  pub laying_more : {i v : ℕ} → j < length vs → i ≡ a + j → v ≡ get_or vs j 0 → Laying l a vs (j + 1) (set s i v)
-  unfolding over
-  laying_more {i} {v} m ei ev = record {
-    out = rw (h.out, ei, ev, add-one j)
-        (ap (λ k. set (over put l a (take j vs)) (a + k) (get_or vs j 0)) (sym (length-take-le j vs (omega arith)))
-        ∙ over-append put l a (take j vs) (get_or vs j 0 ∷ [])
-        ∙ ap (over put l a) (sym (take-suc vs j 0 m)));
-    long = length-set s i v ∙ h.long;
-  }
-
-  pub laying_all : length vs ≤ j → s ≡ over put l a vs
-  laying_all m = h.out ∙ ap (over put l a) (take_all j vs m)
-
--- zeros
-pub laying_zero : {l : List ℕ} {a n j : ℕ} {s : List ℕ} → Laying l a (replicate n 0) j s → j < n → Laying l a (replicate n 0) (j + 1) (set s (a + j) 0)
-laying_zero {n = n} {j = j} h m = laying_more h (omega (arith, length-replicate {A = ℕ} n 0)) refl (sym (get_or-replicate n j 0 0 m))
-
-pub laying_zeros : {l : List ℕ} {a n j : ℕ} {s : List ℕ} → Laying l a (replicate n 0) j s → n ≤ j → s ≡ over put l a (replicate n 0)
-laying_zeros {n = n} h m = laying_all h (omega (arith, length-replicate {A = ℕ} n 0))
+pub laid_paste : (l src : List ℕ) (a k n : ℕ) → k ≡ n → length (take n src) ≡ n → a + n ≤ length l → take a l ++ take k src ++ drop (a + k) l ≡ over put l a (take n src)
+laid_paste l src a k n e f h =
+    rw e (ap (λ j. take a l ++ take n src ++ drop (a + j) l) (sym f) ∙ sym (over_sets l a (take n src) ∙ sets-eq (take n src) l a (omega arith)))
 
 pub part_length_lem : (l : List ℕ) (from n : ℕ) → from + n ≤ length l → length (take n (drop from l)) ≡ n
 part_length_lem l from n h = length-take-le n (drop from l) (omega (arith, length-drop from l))
-
--- bytes from further up, which are not reached yet
-module _ {l : List ℕ} {a from n j : ℕ} {s : List ℕ} (h : Laying l a (take n (drop from l)) j s) (up : a ≤ from) (fits : from + n ≤ length l) where
-  pub laying_down : j < n → Laying l a (take n (drop from l)) (j + 1) (set s (a + j) (get_or s (from + j) 0))
-  laying_down m =
-      laying_more h (omega (arith, part_length_lem l from n fits)) refl
-      (ap (λ s. get_or s (from + j) 0) h.out
-      ∙ over_out l a (take j (take n (drop from l))) (from + j) (inr (omega (arith, length-take j (take n (drop from l)))))
-      ∙ sym (get_or-take n (drop from l) j 0 m ∙ get_or-drop from l j 0))
-
-  pub laying_part : n ≤ j → s ≡ over put l a (take n (drop from l))
-  laying_part m = laying_all h (omega (arith, part_length_lem l from n fits))
 
 pub over_long : (l : List ℕ) (a : ℕ) (vs : List ℕ) {s : List ℕ} → s ≡ over put l a vs → length s ≡ length l
 over_long l a vs e = ap length e ∙ over-length l a vs

@@ -1,4 +1,5 @@
 -- Outlines moved down one by one, their offsets written, and gaps looked for. Assumes nothing.
+use Rattle.std.specs.Prelude.{Option, Some, None}
 use mathlib.Core.Path.{◌≡◌, refl, sym, ap, ◌∙◌}
 use mathlib.Core.Bool.{false}
 use mathlib.Core.Logic.{◌⊎◌, inl, inr, ⊎_elim}
@@ -9,7 +10,7 @@ use native.Mathlib.Numerals.{add-one}
 use native.Mathlib.Omega.{arith}
 use borrow.Author.Tests.{le-leb, lt-leb}
 use lib.ListN.{length, get_or, take, drop, length-append}
-use lib.Seq.{take-suc, take_all, get_or-take, length-take-le}
+use lib.Seq.{take-suc, take_all}
 use Rattle.runs.specs.Runs.{spread, over, put}
 use Rattle.words.specs.Words.{four_bytes, word_from}
 use Rattle.chunk_table.specs.Orders.{EntriesIn, Sorted}
@@ -22,37 +23,29 @@ use Rattle.chunk_table.proofs.SoundTables.{sound_table}
 use Rattle.chunk_table.proofs.Standing.{StandsFrom, stands_next, in_order_all, in_order_stands}
 use Rattle.chunks.proofs.Ends.{end_length, end_from_lem, parts_below}
 use Rattle.chunks.proofs.Laid.{over-length, word_out, drop_out, part_length_lem}
-use Rattle.chunks.specs.declared.Gap.{Gap}
-use Rattle.chunks.specs.declared.Gap.TheVariants as gap
 
--- ---- an order that is held
+-- ---- an order in hand
 
-module _ {c order : List ℕ} {m : ℕ} (h : Sorted c order m) where
-  pub sorted_length : length (in_order c) ≡ m
-  sorted_length = ap length (sym h.sorted) ∙ length-take-le m order h.held
+pub sorted_of : {c order : List ℕ} → damaged_in c ≡ false → order ≡ in_order c → Sorted c order
+sorted_of h e = record { sound = h; sorted = e }
 
-  pub sorted_at : (k : ℕ) → k < m → get_or (in_order c) k 0 ≡ get_or order k 0
-  sorted_at k d = ap (λ l. get_or l k 0) (sym h.sorted) ∙ get_or-take m order k 0 d
+module _ {c order : List ℕ} (h : Sorted c order) where
+  -- what holds of every entry in use holds of those in hand
+  pub sorted_all : (P : ℕ → Type 0) → All P (in_order c) → (k : ℕ) → k < length order → P (get_or order k 0)
+  sorted_all P a k d = all_at P order (rw (← h.sorted) at a) k d
 
-  -- what holdsKey of every entry in use holdsKey of those held
-  pub sorted_all : (P : ℕ → Type 0) → All P (in_order c) → (k : ℕ) → k < m → P (get_or order k 0)
-  sorted_all P a k d = rw (sorted_at k d) at (all_at P (in_order c) a k (omega (arith, sorted_length)))
-
-  pub sorted_entry : (k : ℕ) → k < m → get_or order k 0 < entry_count c
+  pub sorted_entry : (k : ℕ) → k < length order → get_or order k 0 < entry_count c
   sorted_entry = sorted_all (λ i. i < entry_count c) (in_order_all c (sound_table c h.sound) (λ i. i < entry_count c) (λ i d u. d))
 
-  pub sorted_inside : (k : ℕ) → k < m → offset_in c (get_or order k 0) + size_in c (get_or order k 0) ≤ length c
+  pub sorted_inside : (k : ℕ) → k < length order → offset_in c (get_or order k 0) + size_in c (get_or order k 0) ≤ length c
   sorted_inside = sorted_all (λ i. offset_in c i + size_in c i ≤ length c) (in_order_stands c (sound_table c h.sound)).inside
 
-  pub sorted_entries : {n : ℕ} → n ≡ entry_count c → EntriesIn n order m
-  sorted_entries e = record { held = h.held; few = h.few; entries = λ k d. omega (arith, sorted_entry k d) }
+  pub sorted_entries : {n : ℕ} → n ≡ entry_count c → EntriesIn n order
+  sorted_entries e = record { entries = λ k d. omega (arith, sorted_entry k d) }
 
-  pub sorted_end : {n : ℕ} → n ≡ entry_count c → end_from c (take m order) (table_bytes n) ≡ end_in c
+  pub sorted_end : end_from c order (front_in c) ≡ end_in c
   unfolding end_in
-  sorted_end e = rw (h.sorted, e)
-
-pub sorted_of : {c order : List ℕ} {n m : ℕ} → damaged_in c ≡ false → n ≡ entry_count c → (m ≤ n) × (take m order ≡ in_order c) × (m ≤ length order) → Sorted c order m
-sorted_of {c} h e s = record { sound = h; held = s.2; few = omega (arith, (sound_table c h).few, s.0); sorted = s.1 }
+  sorted_end = ap (λ l. end_from c l (front_in c)) h.sorted
 
 -- ---- moving down
 
@@ -72,7 +65,7 @@ spread_more c l k d =
     ∙ spread-append (part_in c) (take k l) (get_or l k 0 ∷ [])
     ∙ ap (λ p. spread (part_in c) (take k l) ++ p) (append-nil (part_in c (get_or l k 0)))
 
-module _ {c order : List ℕ} {m k : ℕ} {s : List ℕ} {at : ℕ} (h : Sorted c order m) (p : Packing c k s at) where
+module _ {c order : List ℕ} {k : ℕ} {s : List ℕ} {at : ℕ} (h : Sorted c order) (p : Packing c k s at) where
   pub packing_length : length s ≡ length c
   packing_length = ap length p.out ∙ over-length c (front_in c) (spread (part_in c) (take k (in_order c)))
 
@@ -80,7 +73,7 @@ module _ {c order : List ℕ} {m k : ℕ} {s : List ℕ} {at : ℕ} (h : Sorted 
   packing_word : (q : ℕ) → q + 4 ≤ front_in c → word_from s q ≡ word_from c q
   packing_word q d = ap (λ t. word_from t q) p.out ∙ word_out c (front_in c) (spread (part_in c) (take k (in_order c))) q (inl d)
 
-  module _ (d : k < m) where
+  module _ (d : k < length order) where
     pub packing_offset : offset_in s (get_or order k 0) ≡ offset_in c (get_or order k 0)
     packing_offset = packing_word (8 + 12 * get_or order k 0) (omega (arith, sorted_entry h k d))
 
@@ -91,7 +84,7 @@ module _ {c order : List ℕ} {m k : ℕ} {s : List ℕ} {at : ℕ} (h : Sorted 
     packing_entry = omega (arith, sorted_entry h k d, (sound_table c h.sound).table, packing_length)
 
     pub packing_below : at ≤ offset_in s (get_or order k 0)
-    packing_below = omega (arith, p.pos, packing_offset, ap (offset_in c) (sorted_at h k d), parts_below c (in_order c) (front_in c) k (in_order_stands c (sound_table c h.sound)) (omega (arith, sorted_length h)))
+    packing_below = omega (arith, p.pos, packing_offset, ap (λ l. offset_in c (get_or l k 0)) h.sorted, parts_below c (in_order c) (front_in c) k (in_order_stands c (sound_table c h.sound)) (omega (arith, ap length h.sorted)))
 
     pub packing_inside : offset_in s (get_or order k 0) + size_in s (get_or order k 0) ≤ length s
     packing_inside = omega (arith, packing_offset, packing_size, packing_length, sorted_inside h k d)
@@ -101,7 +94,7 @@ module _ {c order : List ℕ} {m k : ℕ} {s : List ℕ} {at : ℕ} (h : Sorted 
     packing_step {o} {z} {t} eo ez et =
         let i = get_or order k 0 in
         let moved = spread (part_in c) (take k (in_order c)) in
-        let more : spread (part_in c) (take (k + 1) (in_order c)) ≡ moved ++ part_in c i = spread_more c (in_order c) k (omega (arith, sorted_length h)) ∙ ap (λ j. moved ++ part_in c j) (sorted_at h k d) in
+        let more : spread (part_in c) (take (k + 1) (in_order c)) ≡ moved ++ part_in c i = spread_more c (in_order c) k (omega (arith, ap length h.sorted)) ∙ ap (λ l. moved ++ part_in c (get_or l k 0)) (sym h.sorted) in
         let eo' : o ≡ offset_in c i = eo ∙ packing_offset in
         let ez' : z ≡ size_in c i = ez ∙ packing_size in
         let same : drop o s ≡ drop o c = ap (drop o) p.out ∙ drop_out c (front_in c) moved o (omega (arith, p.pos, packing_below)) in
@@ -116,10 +109,10 @@ module _ {c order : List ℕ} {m k : ℕ} {s : List ℕ} {at : ℕ} (h : Sorted 
           pos = omega (arith, p.pos, ap length more, length-append moved (part_in c i), ez', part_length_lem c (offset_in c i) (size_in c i) (sorted_inside h k d));
         }
 
-  pub packing_done : m ≤ k → (at ≡ end_in c) × (s ≡ over put c (front_in c) (outlines_in c))
+  pub packing_done : length order ≤ k → (at ≡ end_in c) × (s ≡ over put c (front_in c) (outlines_in c))
   unfolding end_in outlines_in
   packing_done d =
-      let all : take k (in_order c) ≡ in_order c = take_all k (in_order c) (omega (arith, sorted_length h)) in (
+      let all : take k (in_order c) ≡ in_order c = take_all k (in_order c) (omega (arith, ap length h.sorted)) in (
         p.pos ∙ ap (λ l. front_in c + length (spread (part_in c) l)) all ∙ sym (end_length c (in_order c) (front_in c) (in_order_stands c (sound_table c h.sound))),
         p.out ∙ ap (λ l. over put c (front_in c) (spread (part_in c) l)) all,
       )
@@ -131,9 +124,6 @@ pub record Renumbering (c l : List ℕ) (front k : ℕ) (s : List ℕ) (at : ℕ
   pub end : end_from c (drop k l) at ≡ end_from c l front
   pub sizes : (i : ℕ) → size_in s i ≡ size_in c i
   pub long : length s ≡ length c
-
-pub renumbering_start : (c l : List ℕ) (front : ℕ) → Renumbering c l front 0 c front
-renumbering_start c l front = record { on = refl; end = refl; sizes = λ i. refl; long = refl }
 
 pub size_kept : (s : List ℕ) (i at j : ℕ) → size_in (over put s (8 + 12 * i) (four_bytes at)) j ≡ size_in s j
 unfolding four_bytes
@@ -170,11 +160,11 @@ end_last c {d} {at} f r = ap (λ l. end_from c l at) (sym r) ∙ f
 
 -- ---- gaps
 
-module _ (c : List ℕ) (n : ℕ) {d : List ℕ} (at : ℕ) {g : Gap} (e : gap_from c n d at ≡ g) where
-  pub gap_fitting : {i o : ℕ} {rest : List ℕ} → d ≡ i ∷ rest → o ≡ offset_in c i → at + n ≤ o → gap.At at ≡ g
+module _ (c : List ℕ) (n : ℕ) {d : List ℕ} (at : ℕ) {g : Option ℕ} (e : gap_from c n d at ≡ g) where
+  pub gap_fitting : {i o : ℕ} {rest : List ℕ} → d ≡ i ∷ rest → o ≡ offset_in c i → at + n ≤ o → Some at ≡ g
   unfolding gap_from
   gap_fitting {i} {o} {rest} r eo h =
-      let t : gap_from c n (i ∷ rest) at ≡ gap.At at = rw (le-leb (at + n) (offset_in c i) (omega arith), gap_from) in
+      let t : gap_from c n (i ∷ rest) at ≡ Some at = rw (le-leb (at + n) (offset_in c i) (omega arith), gap_from) in
       sym t ∙ ap (λ l. gap_from c n l at) (sym r) ∙ e
 
   pub gap_past : {i o z : ℕ} {rest : List ℕ} → d ≡ i ∷ rest → o ≡ offset_in c i → z ≡ size_in c i → o < at + n → gap_from c n rest (o + z) ≡ g
@@ -183,43 +173,43 @@ module _ (c : List ℕ) (n : ℕ) {d : List ℕ} (at : ℕ) {g : Gap} (e : gap_f
       let t : gap_from c n (i ∷ rest) at ≡ gap_from c n rest (offset_in c i + size_in c i) = rw (lt-leb (at + n) (offset_in c i) (omega arith), gap_from) in
       ap (gap_from c n rest) (omega arith) ∙ sym t ∙ ap (λ l. gap_from c n l at) (sym r) ∙ e
 
-  pub gap_last : d ≡ [] → at + n ≤ length c → gap.At at ≡ g
+  pub gap_last : d ≡ [] → at + n ≤ length c → Some at ≡ g
   unfolding gap_from
   gap_last r h =
-      let t : gap_from c n [] at ≡ gap.At at = rw (le-leb (at + n) (length c) h, gap_from) in
+      let t : gap_from c n [] at ≡ Some at = rw (le-leb (at + n) (length c) h, gap_from) in
       sym t ∙ ap (λ l. gap_from c n l at) (sym r) ∙ e
 
-  pub gap_none : d ≡ [] → length c < at + n → gap.Nothing ≡ g
+  pub gap_none : d ≡ [] → length c < at + n → None ≡ g
   unfolding gap_from
   gap_none r h =
-      let t : gap_from c n [] at ≡ gap.Nothing = rw (lt-leb (at + n) (length c) h, gap_from) in
+      let t : gap_from c n [] at ≡ None = rw (lt-leb (at + n) (length c) h, gap_from) in
       sym t ∙ ap (λ l. gap_from c n l at) (sym r) ∙ e
 
-pub nothing_at : {at : ℕ} → gap.Nothing ≡ gap.At at → ⊥
+pub nothing_at : {at : ℕ} → None ≡ Some at → ⊥
 nothing_at e = let z : ◌≡◌ {A = ℕ} 0 1 = cc in omega arith
 
-pub at_same : {a b : ℕ} → gap.At a ≡ gap.At b → a ≡ b
+pub at_same : {a b : ℕ} → Some a ≡ Some b → a ≡ b
 at_same e = cc
 
 -- the place of a gap that is found ends inside the chunk
-pub gap_room : (c : List ℕ) (n : ℕ) (l : List ℕ) (from : ℕ) {at : ℕ} → StandsFrom c from l → gap_from c n l from ≡ gap.At at → at + n ≤ length c
+pub gap_room : (c : List ℕ) (n : ℕ) (l : List ℕ) (from : ℕ) {at : ℕ} → StandsFrom c from l → gap_from c n l from ≡ Some at → at + n ≤ length c
 unfolding gap_from
 gap_room c n [] from {at} h e = pick (less_or (length c) (from + n))
   where
     pick : (length c < from + n) ⊎ (from + n ≤ length c) → at + n ≤ length c
-    pick (inl t) = let q : gap.Nothing ≡ gap.At at = gap_none c n from refl refl t ∙ e in absurd (nothing_at q)
-    pick (inr t) = let q : gap.At from ≡ gap.At at = gap_last c n from refl refl t ∙ e in rw (at_same q) at t
+    pick (inl t) = let q : None ≡ Some at = gap_none c n from refl refl t ∙ e in absurd (nothing_at q)
+    pick (inr t) = let q : Some from ≡ Some at = gap_last c n from refl refl t ∙ e in rw (at_same q) at t
 gap_room c n (i ∷ l) from {at} h e = pick (less_or (offset_in c i) (from + n)) (gap_room c n l (offset_in c i + size_in c i) {at = at} (stands_next h))
   where
-    pick : (offset_in c i < from + n) ⊎ (from + n ≤ offset_in c i) → (gap_from c n l (offset_in c i + size_in c i) ≡ gap.At at → at + n ≤ length c) → at + n ≤ length c
+    pick : (offset_in c i < from + n) ⊎ (from + n ≤ offset_in c i) → (gap_from c n l (offset_in c i + size_in c i) ≡ Some at → at + n ≤ length c) → at + n ≤ length c
     pick (inl t) r = r (gap_past c n from refl {rest = l} refl refl refl t ∙ e)
-    pick (inr t) r = let q : gap.At from ≡ gap.At at = gap_fitting c n from refl {rest = l} refl refl t ∙ e in let z : from + n ≤ length c = omega (arith, h.inside.0) in rw (at_same q) at z
+    pick (inr t) r = let q : Some from ≡ Some at = gap_fitting c n from refl {rest = l} refl refl t ∙ e in let z : from + n ≤ length c = omega (arith, h.inside.0) in rw (at_same q) at z
 
-module _ {c order : List ℕ} {m : ℕ} (h : Sorted c order m) (n : ℕ) where
-  pub gap_found : {front : ℕ} {g x : Gap} → front ≡ front_in c → g ≡ gap_from c n (take m order) front → g ≡ x → gap_in c n ≡ x
+module _ {c order : List ℕ} (h : Sorted c order) (n : ℕ) where
+  pub gap_found : {g : Option ℕ} → g ≡ gap_from c n order (front_in c) → g ≡ gap_in c n
   unfolding gap_in
-  gap_found {front} ef eg ex = sym (eg ∙ ap (λ l. gap_from c n l front) h.sorted ∙ ap (gap_from c n (in_order c)) ef) ∙ ex
+  gap_found e = e ∙ ap (λ l. gap_from c n l (front_in c)) h.sorted
 
-  pub found_room : {at : ℕ} → gap_in c n ≡ gap.At at → at + n ≤ length c
+  pub found_room : {at : ℕ} → Some at ≡ gap_in c n → at + n ≤ length c
   unfolding gap_in
-  found_room e = gap_room c n (in_order c) (front_in c) (in_order_stands c (sound_table c h.sound)) e
+  found_room e = gap_room c n (in_order c) (front_in c) (in_order_stands c (sound_table c h.sound)) (sym e)

@@ -1,4 +1,5 @@
 -- An outline put at its place, and a whole chunk compacted. Assumes nothing.
+use Rattle.std.specs.Prelude.{Option, Some, None}
 use mathlib.Core.Path.{◌≡◌, refl, sym, ap, ◌∙◌}
 use mathlib.Core.Logic.{inl}
 use mathlib.Core.List.{List, [], ◌∷◌, ◌++◌, append-nil}
@@ -19,8 +20,6 @@ use Rattle.chunk_table.proofs.SoundTables.{SoundTable, sound_table}
 use Rattle.chunk_table.proofs.Standing.{in_order_all, in_order_stands}
 use Rattle.chunks.proofs.Ends.{end_length, end_upto}
 use Rattle.chunks.proofs.Laid.{over-length, word_out}
-use Rattle.chunks.specs.declared.Gap.{Gap}
-use Rattle.chunks.specs.declared.Gap.TheVariants as gap
 
 pub outlined : (c : List ℕ) (i key at : ℕ) (made : List ℕ) {c₁ c₂ c₃ c₄ : List ℕ} → c₁ ≡ over put c at made → c₂ ≡ over put c₁ (4 + 12 * i) (four_bytes key) → c₃ ≡ over put c₂ (4 + 12 * i + 4) (four_bytes at) → c₄ ≡ over put c₃ (4 + 12 * i + 8) (four_bytes (length made))
     → c₄ ≡ with_outline c i key at made
@@ -78,7 +77,7 @@ end_as c s [] at h = refl
 end_as c s (i ∷ l) at h = ap (λ z. end_from s l (at + z)) h.0 ∙ end_as c s l (at + size_in c i) h.1
 
 -- what `squeeze` has in hand: packed, cleared, renumbered
-module _ {c order : List ℕ} {m : ℕ} (h : Sorted c order m) {front end : ℕ} (ef : front ≡ front_in c) {s₁ s₂ : List ℕ} (ee : end ≡ end_in c)
+module _ {c order : List ℕ} (h : Sorted c order) {front end : ℕ} (ef : front ≡ front_in c) {s₁ s₂ : List ℕ} (ee : end ≡ end_in c)
     (p : s₁ ≡ over put c (front_in c) (outlines_in c)) (q : s₂ ≡ over put s₁ end (replicate (length s₁ - end) 0)) where
   squeezed_cleared : s₂ ≡ over put (over put c (front_in c) (outlines_in c)) (end_in c) (replicate (length c - end_in c) 0)
   squeezed_cleared =
@@ -88,11 +87,11 @@ module _ {c order : List ℕ} {m : ℕ} (h : Sorted c order m) {front end : ℕ}
   squeezed_sizes : All (λ i. size_in s₂ i ≡ size_in c i) (in_order c)
   squeezed_sizes = in_order_all c (sound_table c h.sound) (λ i. size_in s₂ i ≡ size_in c i) (λ i d u. packed_word c (sound_table c h.sound) (12 + 12 * i) squeezed_cleared (omega arith))
 
-  pub squeezed_end : end_from s₂ (take m order) front ≤ 4294967295
+  pub squeezed_end : end_from s₂ (order) front ≤ 4294967295
   unfolding end_in
   squeezed_end = omega (arith, ap (λ l. end_from s₂ l front) h.sorted, ap (end_from s₂ (in_order c)) ef, end_as c s₂ (in_order c) (front_in c) squeezed_sizes, end_inside c (sound_table c h.sound), (sound_table c h.sound).small)
 
-  pub squeezed : {s₃ : List ℕ} → s₃ ≡ renumbered s₂ (take m order) front s₂ → s₃ ≡ compacted_of c
+  pub squeezed : {s₃ : List ℕ} → s₃ ≡ renumbered s₂ (order) front s₂ → s₃ ≡ compacted_of c
   unfolding compacted_of
   squeezed e =
       e
@@ -118,11 +117,11 @@ compacted_length c snd =
 
 -- ---- added
 
-pub added_at : (c : List ℕ) (key : ℕ) (made : List ℕ) {i at : ℕ} {g : Gap} → g ≡ gap.At at → i ≡ empty_entry c → with_outline c i key at made ≡ added_in g c key made
+pub added_at : (c : List ℕ) (key : ℕ) (made : List ℕ) {i at : ℕ} {g : Option ℕ} → Some at ≡ g → i ≡ empty_entry c → with_outline c i key at made ≡ added_in g c key made
 unfolding added_in
-added_at c key made {i} {at} e ei = ap (λ j. with_outline c j key at made) ei ∙ ap (λ (x : Gap). added_in x c key made) (sym e)
+added_at c key made {i} {at} e ei = ap (λ j. with_outline c j key at made) ei ∙ ap (λ (x : Option ℕ). added_in x c key made) e
 
-pub added_none : (c : List ℕ) (key : ℕ) (made : List ℕ) {i at : ℕ} {s : List ℕ} {g : Gap} → g ≡ gap.Nothing → i ≡ empty_entry c → at ≡ end_in c → s ≡ compacted_of c → with_outline s i key at made ≡ added_in g c key made
+pub added_none : (c : List ℕ) (key : ℕ) (made : List ℕ) {i at : ℕ} {s : List ℕ} {g : Option ℕ} → None ≡ g → i ≡ empty_entry c → at ≡ end_in c → s ≡ compacted_of c → with_outline s i key at made ≡ added_in g c key made
 unfolding added_in
 added_none c key made {i} {at} {s} e ei ea es =
-    ap (λ j. with_outline s j key at made) ei ∙ ap (λ k. with_outline s (empty_entry c) key k made) ea ∙ ap (λ t. with_outline t (empty_entry c) key (end_in c) made) es ∙ ap (λ (x : Gap). added_in x c key made) (sym e)
+    ap (λ j. with_outline s j key at made) ei ∙ ap (λ k. with_outline s (empty_entry c) key k made) ea ∙ ap (λ t. with_outline t (empty_entry c) key (end_in c) made) es ∙ ap (λ (x : Option ℕ). added_in x c key made) e

@@ -1,11 +1,9 @@
 -- Document 02, request 8, "Refusals, in order": each call's rows, and every byte of the chunk afterwards.
-use Rattle.std.specs.Prelude.{true, false, ◌||◌, List, [], ◌∷◌, ◌++◌, ℕ, ◌+◌, ◌*◌, eqb, ltb, leb, length, replicate}
+use Rattle.std.specs.Prelude.{true, false, ◌||◌, Option, Some, None, List, [], ◌∷◌, ◌++◌, ℕ, ◌+◌, ◌*◌, eqb, ltb, leb, length, replicate}
 use Rattle.words.specs.Words.{four_bytes}
 use Rattle.replies.specs.Replies.{Reply, Row, first_row, room_row, written}
 use Rattle.chunk_table.specs.Tables.{most_entries, most_bytes, table_bytes, entry_count, offset_in, size_in, damaged_in, key_entry, empty_entry}
 use Rattle.chunks.specs.Chunks.{gap_in, end_in, compacted_of, with_outline, without}
-use Rattle.chunks.specs.declared.Gap.{Gap}
-use Rattle.chunks.specs.declared.Gap.TheVariants as gap
 
 -- ---- rows
 
@@ -78,9 +76,9 @@ unfoldable pub put_reply : List ℕ → ℕ → ℕ → Reply
 put_reply c key n = first_row (put_rows c key n) (0, n)
 
 -- In the first empty entry and the lowest gap that fits, compacted first if none does.
-unfoldable pub added_in : Gap → List ℕ → ℕ → List ℕ → List ℕ
-added_in (gap.At at) c key made = with_outline c (empty_entry c) key at made
-added_in gap.Nothing c key made = with_outline (compacted_of c) (empty_entry c) key (end_in c) made
+unfoldable pub added_in : Option ℕ → List ℕ → ℕ → List ℕ → List ℕ
+added_in (Some at) c key made = with_outline c (empty_entry c) key at made
+added_in None c key made = with_outline (compacted_of c) (empty_entry c) key (end_in c) made
 
 unfoldable pub put_out : List ℕ → ℕ → List ℕ → List ℕ
 put_out c key made = changed (put_reply c key (length made)) (added_in (gap_in c (length made)) c key made) c

@@ -1,10 +1,8 @@
 -- Document 02, request 8: a chunk's outlines and gaps, the chunk compacted, and one outline put in or taken out.
-use Rattle.std.specs.Prelude.{true, false, List, [], ◌∷◌, ◌++◌, ℕ, ◌+◌, ◌-◌, leb, length, take, drop, replicate}
+use Rattle.std.specs.Prelude.{true, false, Option, Some, None, List, [], ◌∷◌, ◌++◌, ℕ, ◌+◌, ◌-◌, leb, length, take, drop, replicate}
 use Rattle.runs.specs.Runs.{spread, over, put}
 use Rattle.words.specs.Words.{four_bytes}
 use Rattle.chunk_table.specs.Tables.{key_place, offset_place, offset_in, size_in, front_in, in_order}
-use Rattle.chunks.specs.declared.Gap.{Gap}
-use Rattle.chunks.specs.declared.Gap.TheVariants as gap
 
 -- the bytes of entry i's outline
 unfoldable pub part_in : List ℕ → ℕ → List ℕ
@@ -13,11 +11,11 @@ part_in c i = take (size_in c i) (drop (offset_in c i) c)
 -- ---- gaps
 
 -- The lowest gap of n bytes from a place on, before, between and behind the entries that are left.
-unfoldable pub gap_from : List ℕ → ℕ → List ℕ → ℕ → Gap
-gap_from c n [] at = elim (leb (at + n) (length c)) [ true ↦ gap.At at | false ↦ gap.Nothing ]
-gap_from c n (i ∷ is) at = elim (leb (at + n) (offset_in c i)) [ true ↦ gap.At at | false ↦ gap_from c n is (offset_in c i + size_in c i) ]
+unfoldable pub gap_from : List ℕ → ℕ → List ℕ → ℕ → Option ℕ
+gap_from c n [] at = elim (leb (at + n) (length c)) [ true ↦ Some at | false ↦ None ]
+gap_from c n (i ∷ is) at = elim (leb (at + n) (offset_in c i)) [ true ↦ Some at | false ↦ gap_from c n is (offset_in c i + size_in c i) ]
 
-unfoldable pub gap_in : List ℕ → ℕ → Gap
+unfoldable pub gap_in : List ℕ → ℕ → Option ℕ
 gap_in c n = gap_from c n (in_order c) (front_in c)
 
 -- ---- compacted

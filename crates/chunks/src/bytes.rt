@@ -7,23 +7,15 @@ pub fn clear_bytes(s: &mut [u8], at: usize, n: usize)
     requires { at + n ≤ length s.old }
     ensures { s.new ≡ over put s.old at (replicate n 0) }
 {
-    let mut j: usize = 0;
-    while j < n {
-        s[at + j] = 0;
-        j += 1;
-    }
+    s[at..at + n].fill(0);
 }
 
-// n bytes down from further up, the lowest first, so that none is lost.
+// n bytes down from further up.
 pub fn slide_bytes(s: &mut [u8], from: usize, at: usize, n: usize)
     requires { (at ≤ from) × (from + n ≤ length s.old) }
     ensures { s.new ≡ over put s.old at (take n (drop from s.old)) }
 {
-    let mut j: usize = 0;
-    while j < n {
-        s[at + j] = s[from + j];
-        j += 1;
-    }
+    s.copy_within(from..from + n, at);
 }
 
 // All of the lent bytes.
@@ -31,9 +23,5 @@ pub fn copy_bytes(s: &mut [u8], at: usize, made: &[u8])
     requires { at + length made.now ≤ length s.old }
     ensures { s.new ≡ over put s.old at made.now }
 {
-    let mut j: usize = 0;
-    while j < made.len() {
-        s[at + j] = made[j];
-        j += 1;
-    }
+    s[at..at + made.len()].copy_from_slice(made);
 }

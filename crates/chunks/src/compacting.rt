@@ -1,81 +1,67 @@
 // Compact: the outlines moved down in order of offset, the rest zeroed, the offsets written.
-ghost use Rattle.std.specs.Prelude.{◌≡◌, ◌≤◌, length, take};
+ghost use Rattle.std.specs.Prelude.{◌≡◌, ◌+◌, ◌≤◌, ◌<◌, ℕ, length, get_or};
 ghost use Rattle.runs.specs.Runs.{over, put};
-ghost use Rattle.chunk_table.specs.Orders.{EntriesIn, Sorted};
+ghost use Rattle.chunk_table.specs.Orders.{Sorted};
 ghost use Rattle.chunk_table.specs.Tables.{table_bytes, front_in};
 ghost use Rattle.chunks.specs.Answers.{CompactsChunk};
 ghost use Rattle.chunks.specs.Chunks.{outlines_in, end_from, end_in, renumbered, compacted_of};
 
-use crate::Done;
 use crate::bytes::{clear_bytes, slide_bytes};
 use chunk_table::damage::damaged;
 use chunk_table::sorting::sort;
-use chunk_table::table::{MOST_ENTRIES, TABLE_ENTRY, TABLE_HEAD, entry_count, offset_at, size_at};
+use chunk_table::table::{Field, MOST_ENTRIES, Table, word_of};
 use replies::Refusal;
 use words::place_word;
 
-// The outlines one behind another, behind the table, and where they end.
-fn pack(c: &mut [u8], order: &[usize], m: usize, front: usize) -> usize
-    requires { Sorted c.old order.now m × (front ≡ front_in c.old) }
+// The outlines one behind another, behind the table, and where they end. The order is lent beside the chunk, which changes: no struct holds both.
+fn pack(c: &mut [u8], order: &[usize], front: usize) -> usize
+    requires sorted { Sorted c.old order.now }
+    requires front { front ≡ front_in c.old }
     ensures { (result ≡ end_in c.old) × (c.new ≡ over put c.old (front_in c.old) (outlines_in c.old)) }
 {
     let mut at = front;
-    let mut k: usize = 0;
-    while k < m {
-        let i = order[k];
-        let offset = offset_at(c, i);
-        let size = size_at(c, i);
+    for &i in order {
+        let offset = word_of(c, i, Field::Offset);
+        let size = word_of(c, i, Field::Size);
         slide_bytes(c, offset, at, size);
         at += size;
-        k += 1;
     }
     at
 }
 
 // The offsets of outlines that stand one behind another.
-fn renumber(c: &mut [u8], n: usize, order: &[usize], m: usize, front: usize)
-    requires { (table_bytes n ≤ length c.old) × EntriesIn n order.now m × (end_from c.old (take m order.now) front ≤ 4294967295) }
-    ensures { c.new ≡ renumbered c.old (take m order.now) front c.old }
+fn renumber(c: &mut [u8], order: &[usize], front: usize)
+    requires inside { (k : ℕ) → k < length order.now → table_bytes (get_or order.now k 0 + 1) ≤ length c.old }
+    requires end { end_from c.old order.now front ≤ 4294967295 }
+    ensures { c.new ≡ renumbered c.old order.now front c.old }
 {
     let mut at = front;
-    let mut k: usize = 0;
-    while k < m {
-        let i = order[k];
-        place_word(c, 8 + 12 * i, at as u32);
-        at += size_at(c, i);
-        k += 1;
+    for &i in order {
+        place_word(c, Field::Offset.place() + 12 * i, at as u32);
+        at += word_of(c, i, Field::Size);
     }
 }
 
 // A chunk whose table is sound compacted, and where its one gap begins.
-pub fn squeeze(c: &mut [u8], n: usize, order: &[usize], m: usize) -> usize
-    requires { Sorted c.old order.now m × (table_bytes n ≡ front_in c.old) }
+pub fn squeeze(c: &mut [u8], order: &[usize]) -> usize
+    requires { Sorted c.old order.now }
     ensures { (result ≡ end_in c.old) × (c.new ≡ compacted_of c.old) }
 {
-    let front = TABLE_HEAD + TABLE_ENTRY * n;
-    let end = pack(c, order, m, front);
+    let front = Table::of(c).front();
+    let end = pack(c, order, front);
     let rest = c.len() - end;
     clear_bytes(c, end, rest);
-    renumber(c, n, order, m, front);
+    renumber(c, order, front);
     end
 }
 
-// Compact, with numbers to hold the order in.
-fn compact_in(c: &mut [u8], order: &mut [usize]) -> Done
-    requires { 1024 ≤ length order.old }
+pub fn compact(c: &mut [u8]) -> Result<usize, Refusal>
     ensures { CompactsChunk c.old result c.new }
 {
     if damaged(c) {
-        return Done::Refused(Refusal::Damaged);
+        return Err(Refusal::Damaged);
     }
-    let n = entry_count(c);
-    let m = sort(c, n, order);
-    Done::Bytes(squeeze(c, n, order, m))
-}
-
-pub fn compact(c: &mut [u8]) -> Done
-    ensures { CompactsChunk c.old result c.new }
-{
-    let mut order = [0usize; MOST_ENTRIES];
-    compact_in(c, &mut order)
+    let mut order = [0; MOST_ENTRIES];
+    let used = sort(&Table::of(c), &mut order);
+    Ok(squeeze(c, &order[..used]))
 }

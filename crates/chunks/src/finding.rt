@@ -1,21 +1,23 @@
 // Find: where a key's outline stands.
 ghost use Rattle.chunks.specs.Answers.{FindsKey};
 
-use crate::Found;
+use crate::part::Part;
 use chunk_table::damage::damaged;
-use chunk_table::table::{entry_count, key_entry, offset_at, size_at};
+use chunk_table::table::{Field, Table};
 use replies::Refusal;
 
-pub fn find(c: &[u8], key: u32) -> Found
+pub fn find(c: &[u8], key: u32) -> Result<Part, Refusal>
     ensures { FindsKey c.now key result }
 {
     if damaged(c) {
-        return Found::Refused(Refusal::Damaged);
+        return Err(Refusal::Damaged);
     }
-    let n = entry_count(c);
-    let i = key_entry(c, n, key);
-    if n <= i {
-        return Found::Refused(Refusal::KeyMissing(key));
-    }
-    Found::Part(offset_at(c, i), size_at(c, i))
+    let table = Table::of(c);
+    let Some(i) = table.key_entry(key) else {
+        return Err(Refusal::KeyMissing(key));
+    };
+    Ok(Part {
+        offset: table.word(i, Field::Offset),
+        size: table.word(i, Field::Size),
+    })
 }

@@ -4,35 +4,32 @@ ghost use Rattle.chunk_table.specs.Tables.{entry_count, size_in, used_at, damage
 ghost use Rattle.chunks.specs.Answers.{RemovesKey};
 ghost use Rattle.chunks.specs.Chunks.{without};
 
-use crate::Done;
 use crate::bytes::clear_bytes;
 use chunk_table::damage::damaged;
-use chunk_table::table::{TABLE_ENTRY, TABLE_HEAD, entry_count, key_entry, offset_at, size_at};
+use chunk_table::table::{Field, TABLE_ENTRY, TABLE_HEAD, Table, word_of};
 use replies::Refusal;
 
 // Entry i, which is in use, and its outline zeroed; the outline's bytes.
 fn wipe(c: &mut [u8], i: usize) -> usize
-    requires { (damaged_in c.old ≡ false) × (i < entry_count c.old) × (used_at c.old i ≡ true) }
+    requires sound { damaged_in c.old ≡ false }
+    requires used { (i < entry_count c.old) × (used_at c.old i ≡ true) }
     ensures { (result ≡ size_in c.old i) × (c.new ≡ without c.old i) }
 {
-    let offset = offset_at(c, i);
-    let size = size_at(c, i);
+    let offset = word_of(c, i, Field::Offset);
+    let size = word_of(c, i, Field::Size);
     clear_bytes(c, offset, size);
-    let head = TABLE_HEAD + TABLE_ENTRY * i;
-    clear_bytes(c, head, TABLE_ENTRY);
+    clear_bytes(c, TABLE_HEAD + TABLE_ENTRY * i, TABLE_ENTRY);
     size
 }
 
-pub fn remove(c: &mut [u8], key: u32) -> Done
+pub fn remove(c: &mut [u8], key: u32) -> Result<usize, Refusal>
     ensures { RemovesKey c.old key result c.new }
 {
     if damaged(c) {
-        return Done::Refused(Refusal::Damaged);
+        return Err(Refusal::Damaged);
     }
-    let n = entry_count(c);
-    let i = key_entry(c, n, key);
-    if n <= i {
-        return Done::Refused(Refusal::KeyMissing(key));
-    }
-    Done::Bytes(wipe(c, i))
+    let Some(i) = Table::of(c).key_entry(key) else {
+        return Err(Refusal::KeyMissing(key));
+    };
+    Ok(wipe(c, i))
 }

@@ -1,4 +1,5 @@
 -- The edges of chains: what a chain has emitted leads from its last section's left contact to its right one, and its end closes it. Assumes nothing.
+use Rattle.std.specs.Prelude.{Option, Some, None}
 use mathlib.Core.Path.{◌≡◌}
 use mathlib.Core.Bool.{Bool, true, false, ◌&&◌, ◌||◌}
 use mathlib.Core.List.{List, [], ◌++◌}
@@ -16,8 +17,6 @@ use Rattle.variable_stroke.specs.Chains.{both_butt, lone_of, finish_last, finish
 use Rattle.contacts.specs.declared.Section.{Section}
 use Rattle.joins.specs.declared.Cap.{Cap}
 use Rattle.joins.specs.declared.Cap.TheVariants.{Butt, Round}
-use Rattle.contacts.specs.declared.Last.{Last}
-use Rattle.contacts.specs.declared.Last.TheVariants.{Nothing, Held}
 use Rattle.variable_stroke.specs.declared.Chain.{Chain}
 use Rattle.turning.proofs.Rays.{neither}
 use Rattle.closing.specs.Closing.{here_of, starts_at, ends_at, Balanced, one_at_centre, left_stray, right_stray, stray_join, stray_meet}
@@ -28,9 +27,9 @@ pub record Even (s : Section) : Type 0 where
   pub a : one_at_centre (centre_of s.a) s.left.a s.right.a ≡ false
   pub b : one_at_centre (centre_of s.b) s.right.b s.left.b ≡ false
 
-unfoldable pub EvenLast : Last → Type 0
-EvenLast Nothing = Unit {0}
-EvenLast (Held s) = Even s
+unfoldable pub EvenLast : Option Section → Type 0
+EvenLast None = Unit {0}
+EvenLast (Some s) = Even s
 
 pub start_carries : (t : Vector) (s : Section) (k : Cap) → Even s → Carries s.left.a s.right.a (start_cap t s k)
 unfolding start_cap arc_about
@@ -91,18 +90,18 @@ join_carries t prev next hp hn h = go (same_centre prev next) h
 -- ---- chains
 
 -- what a chain with that last section has emitted, and what ends it
-unfoldable pub Opens : Last → List Edge → Type 0
-Opens Nothing es = Balanced es
-Opens (Held s) es = Carries s.left.b s.right.b es
+unfoldable pub Opens : Option Section → List Edge → Type 0
+Opens None es = Balanced es
+Opens (Some s) es = Carries s.left.b s.right.b es
 
-unfoldable pub Shuts : Last → List Edge → Type 0
-Shuts Nothing es = Balanced es
-Shuts (Held s) es = Carries s.right.b s.left.b es
+unfoldable pub Shuts : Option Section → List Edge → Type 0
+Shuts None es = Balanced es
+Shuts (Some s) es = Carries s.right.b s.left.b es
 
-pub opens_shut : (l : Last) (es fs : List Edge) → Opens l es → Shuts l fs → Balanced (es ++ fs)
+pub opens_shut : (l : Option Section) (es fs : List Edge) → Opens l es → Shuts l fs → Balanced (es ++ fs)
 unfolding Opens Shuts
-opens_shut Nothing es fs h k = record { balance = λ x. omega (arith, h.balance x, k.balance x, starts_append x es fs, ends-append x es fs) }
-opens_shut (Held s) es fs h k = record { balance = λ x. omega (arith, h.carry x, k.carry x, starts_append x es fs, ends-append x es fs) }
+opens_shut None es fs h k = record { balance = λ x. omega (arith, h.balance x, k.balance x, starts_append x es fs, ends-append x es fs) }
+opens_shut (Some s) es fs h k = record { balance = λ x. omega (arith, h.carry x, k.carry x, starts_append x es fs, ends-append x es fs) }
 
 lone_balanced : (t : Vector) (c : Chain) (k : Cap) → Balanced (lone_of t c k)
 unfolding lone_of
@@ -112,20 +111,20 @@ lone_balanced t c k = go (c.mark || both_butt c.cap k)
     go true = balanced_none
     go false = balanced (circle_carries t (centre_of c.start) c.start.radius)
 
-finish_last_lem : (t : Vector) (l : Last) (c : Chain) (k : Cap) → EvenLast l → Shuts l (finish_last t l c k)
+finish_last_lem : (t : Vector) (l : Option Section) (c : Chain) (k : Cap) → EvenLast l → Shuts l (finish_last t l c k)
 unfolding finish_last Shuts EvenLast
-finish_last_lem t Nothing c k h = lone_balanced t c k
-finish_last_lem t (Held s) c k h = end_carries t s k h
+finish_last_lem t None c k h = lone_balanced t c k
+finish_last_lem t (Some s) c k h = end_carries t s k h
 
 pub finish_shuts : (t : Vector) (c : Chain) (k : Cap) → EvenLast c.last → Shuts c.last (finish_of t c k)
 unfolding finish_of
 finish_shuts t c k h = finish_last_lem t c.last c k h
 
 -- a drawn step: the edges so far and its own lead from the new section's left contact to its right one
-meet_opens : (t : Vector) (l : Last) (k : Cap) (s : Section) (es : List Edge) → EvenLast l → Even s → stray_meet l s ≡ false → Opens l es
+meet_opens : (t : Vector) (l : Option Section) (k : Cap) (s : Section) (es : List Edge) → EvenLast l → Even s → stray_meet l s ≡ false → Opens l es
     → Carries s.left.b s.right.b (es ++ (edge_of s.left.b s.left.a ++ (edge_of s.right.a s.right.b ++ meet_last t l k s)))
 unfolding meet_last Opens EvenLast stray_meet
-meet_opens t Nothing k s es hl hs hm h =
+meet_opens t None k s es hl hs hm h =
     let left = edge_of s.left.b s.left.a in
     let right = edge_of s.right.a s.right.b in
     let cap = start_cap t s k in
@@ -144,7 +143,7 @@ meet_opens t Nothing k s es hl hs hm h =
         ends-append x right cap,
       );
     }
-meet_opens t (Held prev) k s es hl hs hm h =
+meet_opens t (Some prev) k s es hl hs hm h =
     let left = edge_of s.left.b s.left.a in
     let right = edge_of s.right.a s.right.b in
     let join = join_of t prev s in
@@ -165,6 +164,6 @@ meet_opens t (Held prev) k s es hl hs hm h =
     }
 
 pub drawn_opens : (t : Vector) (c : Chain) (s : Section) (es : List Edge) → EvenLast c.last → Even s → stray_meet c.last s ≡ false → Opens c.last es
-    → Opens (Held s) (es ++ drawn_of t c s)
+    → Opens (Some s) (es ++ drawn_of t c s)
 unfolding drawn_of Opens
 drawn_opens t c s es hl hs hm h = meet_opens t c.last c.cap s es hl hs hm h

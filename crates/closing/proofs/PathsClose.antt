@@ -1,4 +1,5 @@
 -- A path's boundary closes: each step leaves the chain open between the two contacts that the next step or the end leads on from. Assumes nothing.
+use Rattle.std.specs.Prelude.{Some}
 use mathlib.Core.Path.{◌≡◌, refl}
 use mathlib.Core.Bool.{Bool, true, false}
 use mathlib.Core.List.{List, [], ◌∷◌, ◌++◌, append-nil, append_assoc}
@@ -18,7 +19,6 @@ use Rattle.joins.specs.declared.Cap.{Cap}
 use Rattle.joins.specs.declared.Cap.TheVariants.{Butt, Round}
 use Rattle.contacts.specs.declared.Kind.{Kind}
 use Rattle.contacts.specs.declared.Kind.TheVariants.{Broken, Drawn, Thin}
-use Rattle.contacts.specs.declared.Last.TheVariants.{Held}
 use Rattle.variable_stroke.specs.declared.Chain.{Chain}
 use Rattle.variable_stroke.specs.declared.Walk.{Walk}
 use Rattle.contacts.proofs.Allowed.{inside_of_lem, inside_first}
@@ -56,7 +56,7 @@ leaves t w b es h = go (covered_of w.previous b)
 -- ---- a step
 
 drawn_left : (t : Vector) (w : Walk) (b : Vertex) (es : List Edge) → Inside b → OpenWalk w es → kind_of w.at b ≡ Drawn → stray_meet (leave_chain w b).last (section_of w.at b) ≡ false
-    → OpenChain (marked_of (leave_chain w b) (Held (section_of w.at b))) (es ++ (leave_edges t w b ++ drawn_of t (leave_chain w b) (section_of w.at b)))
+    → OpenChain (marked_of (leave_chain w b) (Some (section_of w.at b))) (es ++ (leave_edges t w b ++ drawn_of t (leave_chain w b) (section_of w.at b)))
 unfolding marked_of EvenLast
 drawn_left t w b es hb h e f =
     let l = leaves t w b es h in

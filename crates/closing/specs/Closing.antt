@@ -1,5 +1,5 @@
 -- Document 02, request 12, "Boundaries that close".
-use Rattle.std.specs.Prelude.{◌≡◌, Bool, true, false, not, ◌&&◌, ◌||◌, List, [], ◌∷◌, ℕ, ◌+◌, length}
+use Rattle.std.specs.Prelude.{◌≡◌, Bool, true, false, not, ◌&&◌, ◌||◌, List, [], ◌∷◌, ℕ, ◌+◌, length, Option, Some, None}
 use Rattle.plane.specs.Vectors.{same_point}
 use Rattle.plane.specs.declared.Point.{Point}
 use Rattle.turning.specs.declared.Edge.{Edge}
@@ -8,8 +8,6 @@ use Rattle.contacts.specs.Contacts.{centre_of, kind_of, section_of}
 use Rattle.contacts.specs.declared.Vertex.{Vertex}
 use Rattle.contacts.specs.declared.Section.{Section}
 use Rattle.contacts.specs.declared.Kind.TheVariants.{Broken, Drawn, Thin}
-use Rattle.contacts.specs.declared.Last.{Last}
-use Rattle.contacts.specs.declared.Last.TheVariants.{Nothing, Held}
 use Rattle.joins.specs.Joins.{left_turns, right_turns, same_centre}
 use Rattle.variable_stroke.specs.Chains.{leave_chain, next_of, start_of}
 use Rattle.variable_stroke.specs.declared.Walk.{Walk}
@@ -46,9 +44,9 @@ right_stray prev next = right_turns prev next && one_at_centre (centre_of prev.b
 unfoldable pub stray_join : Section → Section → Bool
 stray_join prev next = same_centre prev next && (left_stray prev next || right_stray prev next)
 
-unfoldable pub stray_meet : Last → Section → Bool
-stray_meet Nothing s = false
-stray_meet (Held prev) s = stray_join prev s
+unfoldable pub stray_meet : Option Section → Section → Bool
+stray_meet None s = false
+stray_meet (Some prev) s = stray_join prev s
 
 -- The step to b has such a join; a step of a path has.
 unfoldable pub stray_step : Walk → Vertex → Bool

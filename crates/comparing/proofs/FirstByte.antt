@@ -1,6 +1,6 @@
 -- The first byte in which a store differs from what is due, found part by part; and that it tells whether the store is sound. Assumes nothing.
 use mathlib.Core.Path.{◌≡◌, refl, sym, ap, ◌∙◌}
-use mathlib.Core.Bool.{Bool, true, false, true≢false}
+use mathlib.Core.Bool.{Bool, true, false}
 use mathlib.Core.List.{List, [], ◌∷◌, ◌++◌, append-nil}
 use Prim.Native.Nat.{ℕ, zero, suc, ◌+◌, ◌-◌, ◌/◌, ◌≤◌, ◌<◌}
 use native.Mathlib.Nat.{add-zero, zero-add}
@@ -16,7 +16,7 @@ use Rattle.contacts.specs.declared.Vertex.{Vertex}
 use Rattle.outline.specs.Layout.{header_bytes, front_bytes}
 use Rattle.words.specs.Words.{four_bytes, bytes_of}
 use Rattle.outline.specs.Outlines.{style_words, header_of, body_words, Parts, parts_words, edges_for, parts_of, outline_words, outline_bytes}
-use Rattle.outline.specs.Stores.{length_in, due_in, same_bytes, sound_of, first_differing, differing_in}
+use Rattle.outline.specs.Stores.{length_in, due_in, sound_of, first_differing, differing_in}
 use Rattle.outline.specs.Theorems.{FormWithin, Headed}
 use Rattle.comparing.specs.Compares.{Agrees}
 use Rattle.comparing.specs.declared.Compared.{Compared}
@@ -80,9 +80,6 @@ module _ (s : List ℕ) {ok : ℕ} {form : Form} where
   pub rest_stroke : {e : Edition} → form ≡ Stroke e → Runs (agree s) four_bytes ok 20 (style_words form) ok (header_bytes form)
   rest_stroke {e} q = rw q (stroke_style e)
 
-  pub rest_kerb : {y : Style} {r : ℕ} → form ≡ Kerb y → Runs (agree s) four_bytes ok 20 (style_words (Kerb y)) r 32 → Runs (agree s) four_bytes ok 20 (style_words form) r (header_bytes form)
-  rest_kerb e p = rw e p
-
 pub kerb_within : {form : Form} {y : Style} → form ≡ Kerb y → FormWithin form → Radius y.radius
 kerb_within e h = rw e at h
 
@@ -125,9 +122,6 @@ module _ (s : List ℕ) (f : Form) (g : ℕ) (ps : List ℕ) (vs : List Vertex) 
 module _ {s : List ℕ} (f : Form) (g : ℕ) (ps : List ℕ) (vs : List Vertex) {c : Compared} (q : Agrees s f g ps vs c) where
   pub end_edges : {n b : ℕ} → n ≡ length vs → b ≡ front_bytes f n → (c.end - b) / 16 ≡ length (edges_for f g vs)
   end_edges en eb = omega (arith, eb ∙ ap (front_bytes f) en, q.bodies.pos, bodies_bytes (edges_for f g vs))
-
-  pub end_past : {n b : ℕ} → n ≡ length vs → b ≡ front_bytes f n → b ≤ c.end
-  end_past en eb = omega (arith, eb ∙ ap (front_bytes f) en, q.bodies.pos)
 
   pub end_is : c.end ≡ length (outline_bytes f g ps vs)
   end_is = omega (arith, q.bodies.pos, bodies_bytes (edges_for f g vs), outline_length f g ps vs)

@@ -15,7 +15,7 @@ ghost use Rattle.comparing.specs.Compares.{StepAgrees, EndAgrees, Agrees};
 
 use crate::Compared;
 use contacts::Vertex;
-use outline::layout::{HEADER, entry_bytes, front};
+use outline::layout::HEADER;
 use outline::posts::post_at;
 use outline::{Edition, Form};
 use paths::paths::vertex;
@@ -64,56 +64,61 @@ pub fn same_entry(
     let b = same_word(s, a, at + 4, wide_bits(v.y));
     let c = same_word(s, b, at + 8, wide_bits(v.radius));
     let d = same_post(s, c, at + 12, edition, post);
-    let last = entry_bytes(edition) - 4;
+    let last = edition.entry_bytes() - 4;
     same_word(s, d, at + last, count)
 }
 
-// A step to v: the edges emitted on the way stand in `own` while they are compared.
-pub fn compare_step(
-    c: Comparing,
-    edition: Edition,
-    t: Vector,
-    v: Vertex,
-    post: u32,
-    own: &mut [i32],
-    s: &[u8],
-) -> Comparing
-    requires unit_long { UnitLong t × AroundWalk c.walk × Inside v × StepRoom t (length own.old) }
-    requires edition_bound { (c.entry + stroke_bytes edition < 2 ^ 64) × (c.at + 147632 < 2 ^ 64) }
-    ensures { StepAgrees edition t s.now c v post result }
-{
-    let walk = c.walk;
-    let w = walk.step(own, 0, t, v);
-    let n = w.at;
-    let next = w.walk;
-    let table = same_entry(s, c.table, c.entry, edition, v, post, (n / 4) as u32);
-    let bodies = same_numbers(own, n, s, c.bodies, c.at);
-    let entry = c.entry + entry_bytes(edition);
-    let at = c.at + 4 * n;
-    Comparing {
-        walk: next,
-        table,
-        entry,
-        bodies,
-        at,
+impl Comparing {
+    // A step to v: the edges emitted on the way stand in `own` while they are compared.
+    pub fn step(
+        self,
+        edition: Edition,
+        t: Vector,
+        v: Vertex,
+        post: u32,
+        own: &mut [i32],
+        s: &[u8],
+    ) -> Comparing
+        requires unit_long { UnitLong t }
+        requires around { AroundWalk self.walk × Inside v }
+        requires step_room { StepRoom t (length own.old) }
+        requires no_wrap { (self.entry + stroke_bytes edition < 2 ^ 64) × (self.at + 147632 < 2 ^ 64) }
+        ensures { StepAgrees edition t s.now self v post result }
+    {
+        let walked = self.walk.step(own, 0, t, v);
+        let n = walked.at;
+        let table = same_entry(s, self.table, self.entry, edition, v, post, (n / 4) as u32);
+        let bodies = same_numbers(own, n, s, self.bodies, self.at);
+        let entry = self.entry + edition.entry_bytes();
+        let at = self.at + 4 * n;
+        Comparing {
+            walk: walked.walk,
+            table,
+            entry,
+            bodies,
+            at,
+        }
+    }
+
+    // The end: the closing count and the closing edges.
+    pub fn end(self, t: Vector, own: &mut [i32], s: &[u8]) -> Compared
+        requires unit_long { UnitLong t }
+        requires around { AroundWalk self.walk }
+        requires step_room { StepRoom t (length own.old) }
+        requires no_wrap { (self.entry + 4 < 2 ^ 64) × (self.at + 147632 < 2 ^ 64) }
+        ensures { EndAgrees t s.now self result }
+    {
+        let n = self.walk.close(own, 0, t);
+        let table = same_word(s, self.table, self.entry, (n / 4) as u32);
+        let bodies = same_numbers(own, n, s, self.bodies, self.at);
+        let end = self.at + 4 * n;
+        Compared { table, bodies, end }
     }
 }
 
-// The end: the closing count and the closing edges.
-pub fn compare_end(c: Comparing, t: Vector, own: &mut [i32], s: &[u8]) -> Compared
-    requires unit_long { UnitLong t × AroundWalk c.walk × StepRoom t (length own.old) }
-    requires c_bound { (c.entry + 4 < 2 ^ 64) × (c.at + 147632 < 2 ^ 64) }
-    ensures { EndAgrees t s.now c result }
-{
-    let walk = c.walk;
-    let n = walk.close(own, 0, t);
-    let table = same_word(s, c.table, c.entry, (n / 4) as u32);
-    let bodies = same_numbers(own, n, s, c.bodies, c.at);
-    let end = c.at + 4 * n;
-    Compared { table, bodies, end }
-}
-
-// The whole table and all bodies.
+// The whole table and all bodies. n is the count of vertices that the header says; the path's numbers are three times as many. A kerb's tour
+// (kerb_comparing) tells a count only where a body ends, and difference_walk tells of each body by itself: the three share the walk's steps and
+// the words below them, and one function over all would be those two calls.
 pub fn compare(
     path: &[i32],
     n: usize,
@@ -122,11 +127,11 @@ pub fn compare(
     own: &mut [i32],
     s: &[u8],
 ) -> Compared
-    requires n_value { (n ≡ length (path_of path.now)) × Within grade (path_of path.now) × (step_numbers grade ≤ length own.old) }
-    requires n_in_bounds { front_bytes (Stroke edition) n ≤ length s.now }
+    requires path_within { (n ≡ length (path_of path.now)) × Within grade (path_of path.now) × (step_numbers grade ≤ length own.old) }
+    requires table_inside { front_bytes (Stroke edition) n ≤ length s.now }
     ensures { Agrees s.now (Stroke edition) grade (posts_of (Stroke edition) n s.now) (path_of path.now) result }
 {
-    let base = front(Form::Stroke(edition), n);
+    let base = Form::Stroke(edition).front(n);
     if n == 0 {
         let none = same_word(s, HEADER, HEADER, 0);
         return Compared {
@@ -138,7 +143,7 @@ pub fn compare(
     let t = step(grade);
     let a = vertex(path, 0);
     let first = same_entry(s, HEADER, HEADER, edition, a, post_at(s, edition, 0), 0);
-    let second = HEADER + entry_bytes(edition);
+    let second = HEADER + edition.entry_bytes();
     let mut c = Comparing {
         walk: Walk::new(a),
         table: first,
@@ -146,12 +151,10 @@ pub fn compare(
         bodies: base,
         at: base,
     };
-    let mut k: usize = 1;
-    while k < n {
+    for k in 1..n {
         let v = vertex(path, k);
         let p = post_at(s, edition, k);
-        c = compare_step(c, edition, t, v, p, own, s);
-        k += 1;
+        c = c.step(edition, t, v, p, own, s);
     }
-    compare_end(c, t, own, s)
+    c.end(t, own, s)
 }

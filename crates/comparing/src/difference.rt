@@ -13,17 +13,17 @@ ghost use Rattle.comparing.specs.Compares.{lent_path, Agrees};
 use crate::Compared;
 use kerb::Style;
 use outline::Form;
-use outline::layout::{EDGE, closed_word, edition_word, front, header_bytes, join_word, kind_word};
+use outline::layout::{EDGE, closed_word, join_word};
 use words::{same_word, wide_bits};
 
-// A kerb's style, after the edge count.
+// A kerb's style, after the edge count. Its bound is a clause and no invariant of Style: a header's words are read as a style before their row
+// is tested.
 fn same_style(s: &[u8], ok: usize, y: Style) -> usize
     requires { Radius y.radius }
     ensures { Runs (agree s.now) four_bytes ok 20 (style_words (Kerb y)) result 32 }
 {
-    let join = y.join;
     let a = same_word(s, ok, 20, wide_bits(y.radius));
-    let b = same_word(s, a, 24, join_word(join));
+    let b = same_word(s, a, 24, join_word(y.join));
     same_word(s, b, 28, closed_word(y.closed))
 }
 
@@ -43,8 +43,8 @@ fn same_header(s: &[u8], form: Form, grade: u32, n: u32, m: u32) -> usize
     requires { FormWithin form }
     ensures { Runs (agree s.now) four_bytes 0 0 (header_of form grade n m) result (header_bytes form) }
 {
-    let a = same_word(s, 0, 0, edition_word(form));
-    let b = same_word(s, a, 4, kind_word(form));
+    let a = same_word(s, 0, 0, form.edition_word());
+    let b = same_word(s, a, 4, form.kind_word());
     let c = same_word(s, b, 8, grade);
     let d = same_word(s, c, 12, n);
     let e = same_word(s, d, 16, m);
@@ -60,14 +60,14 @@ pub fn first_difference(
     n: usize,
     c: Compared,
 ) -> usize
-    requires n_value { (n ≡ length (lent_path form path.now)) × (n ≤ 4096) × FormWithin form }
+    requires vertices { (n ≡ length (lent_path form path.now)) × (n ≤ 4096) × FormWithin form }
     requires agrees { Agrees s.now form grade (posts_of form n s.now) (lent_path form path.now) c }
     ensures { result ≡ first_differing s.now (outline_bytes form grade (posts_of form n s.now) (lent_path form path.now)) }
 {
-    let base = front(form, n);
+    let base = form.front(n);
     let m = (c.end - base) / EDGE;
     let f = same_header(s, form, grade, n as u32, m as u32);
-    if f < header_bytes(form) {
+    if f < form.header_bytes() {
         return f;
     }
     if c.table < base {

@@ -1,18 +1,23 @@
 -- A vertex is allowed just where it is within the limits. Assumes nothing.
-use mathlib.Core.Path.{◌≡◌, refl, sym}
+use mathlib.Core.Path.{◌≡◌, refl, sym, ◌∙◌}
 use mathlib.Core.Bool.{true, and-eq-true_iff, true≢false, false, ◌&&◌, Bool}
-use Prim.Native.Nat.{◌^◌, ◌≤◌, ◌<◌, suc}
+use Prim.Native.Nat.{◌^◌, ◌≤◌, suc}
 use native.Mathlib.Omega.{arith}
-use borrow.Author.Tests.{leb-true, le-leb}
-use lib.IntN.{ℤ, pos, negsuc, nat_abs}
-use lib.Signed.{le_z, mag}
+use borrow.Author.Tests.{leb-true}
+use lib.IntN.{ℤ, pos, negsuc}
+use lib.Signed.{le_z}
+use Rattle.std.proofs.Math.Bool.{and_assoc}
+use Rattle.std.specs.Prelude.{Some}
+use Rattle.std.specs.Ordering.{int_cmp, is_le}
+use Rattle.std.specs.Range.{range_inclusive_start, range_inclusive_end, range_inclusive_exhausted, range_inclusive_contains}
+use Rattle.std.specs.declared.ops.RangeInclusive.{RangeInclusive}
+use Rattle.std.proofs.lemmas.Bool.Decides.{nat_tests}
 use Rattle.whole.specs.Sizes.{Size}
 use Rattle.whole.proofs.Signed.{le_from}
 use Rattle.turning.specs.Bounds.{Radius}
 use Rattle.contacts.specs.Limits.{allowed_of, first_outside}
 use Rattle.contacts.specs.Bounds.{Inside}
 use Rattle.contacts.specs.declared.Vertex.{Vertex}
-use Rattle.plane.proofs.Products.{bits, back}
 use mathlib.Core.List.{List, [], ◌∷◌}
 use lib.ListN.{length}
 use Rattle.contacts.specs.declared.Vertex.{Vertex}
@@ -36,30 +41,30 @@ inside_of_lem {v} e =
     let p₁ = (and-eq-true_iff _ _).0 p₂.0 in
     record { x = size_is v.x p₁.0 p₁.1; y = size_is v.y p₂.1 p₃.1; radius = radius_is v.radius p₄.1 p₅.1 }
 
--- and back
-low_is : (z : ℤ) → Size (2 ^ 28) z → le_z (negsuc 268435455) z ≡ true
-low_is (pos n) h = refl
-low_is (negsuc n) h = le-leb n 268435455 (omega (arith, h.size))
+-- the library's order of signed numbers is the limits'
+cmp_le : (x y : ℤ) → is_le (int_cmp x y) ≡ le_z x y
+cmp_le (pos m) (pos n) = grind (arith, nat_tests)
+cmp_le (pos m) (negsuc n) = refl
+cmp_le (negsuc m) (pos n) = refl
+cmp_le (negsuc m) (negsuc n) = grind (arith, nat_tests)
 
-high_is : (z : ℤ) → nat_abs z ≤ 2 ^ 28 → le_z z (pos 268435456) ≡ true
-high_is (pos n) h = le-leb n 268435456 h
-high_is (negsuc n) h = refl
+pub in_range : {r : RangeInclusive ℤ} {low high : ℤ} (x : ℤ) {b : Bool} → range_inclusive_start r ≡ low → range_inclusive_end r ≡ high → range_inclusive_exhausted r ≡ false
+    → b ≡ range_inclusive_contains (λ (y z : ℤ). Some (int_cmp y z)) r x → b ≡ (le_z low x && le_z x high)
+in_range {r} {low} {high} x e f g h = rw (e, f, g, cmp_le low x, cmp_le x high) at h
 
-zero_is : (z : ℤ) → Radius z → le_z (pos 0) z ≡ true
-zero_is (pos n) h = le-leb 0 n (omega arith)
-zero_is (negsuc n) h = absurd h.low.le
+module _ (v : Vertex) {x : Bool} (e : x ≡ (le_z (negsuc 268435455) v.x && le_z v.x (pos 268435456))) where
+  pub not_across : x ≡ false → false ≡ allowed_of v
+  unfolding allowed_of
+  not_across h = rw (sym e ∙ h)
 
-pub allowed_is : {v : Vertex} → Inside v → allowed_of v ≡ true
-unfolding allowed_of
-allowed_is {v} h = rw (low_is v.x h.x, high_is v.x h.x.size, low_is v.y h.y, high_is v.y h.y.size, zero_is v.radius h.radius, high_is v.radius h.radius.high)
+  module _ {y : Bool} (f : y ≡ (le_z (negsuc 268435455) v.y && le_z v.y (pos 268435456))) (h : x ≡ true) where
+    pub not_up : y ≡ false → false ≡ allowed_of v
+    unfolding allowed_of
+    not_up k = rw (sym e ∙ h, and_assoc true, sym f ∙ k)
 
-pub allowed_bits : (v : Vertex) → mag v.x < 2 ^ 63 → mag v.y < 2 ^ 63 → mag v.radius < 2 ^ 63
-    → allowed_of v
-    ≡ (le_z (negsuc 268435455) (bits v.x) && le_z (bits v.x) (pos 268435456)
-    && le_z (negsuc 268435455) (bits v.y) && le_z (bits v.y) (pos 268435456)
-    && le_z (pos 0) (bits v.radius) && le_z (bits v.radius) (pos 268435456))
-unfolding allowed_of
-allowed_bits v hx hy hr = rw (back (record { sfits = hx }), back (record { sfits = hy }), back (record { sfits = hr }))
+    pub all_allowed : {r : Bool} → y ≡ true → r ≡ (le_z (pos 0) v.radius && le_z v.radius (pos 268435456)) → r ≡ allowed_of v
+    unfolding allowed_of
+    all_allowed k g = rw (sym e ∙ h, g, and_assoc true, sym f ∙ k)
 
 pub inside_first : (v : Vertex) (vs : List Vertex) → first_outside (v ∷ vs) ≡ suc (length vs) → (allowed_of v ≡ true) × (first_outside vs ≡ length vs)
 unfolding first_outside

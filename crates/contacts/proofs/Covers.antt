@@ -1,17 +1,20 @@
 -- Covering: one law for each case, with what the code has computed, on bits where it is signed, as variables and equations. Assumes nothing.
-use mathlib.Core.Path.{◌≡◌, refl, sym, ◌∙◌}
+use Rattle.std.specs.Prelude.{Option, Some, None}
+use Rattle.std.proofs.Math.Bool.{and-true, and-false}
+use Rattle.std.proofs.lemmas.Bool.Decides.{nat_tests}
+use mathlib.Core.Path.{◌≡◌, refl, sym, ap, ◌∙◌}
 use mathlib.Core.Bool.{Bool, true, false, not, ◌&&◌, true≢false}
 use Prim.Native.Nat.{ℕ, ◌*◌, ◌^◌}
 use native.Mathlib.Omega.{arith}
 use borrow.Author.Tests.{eq-eqb, ne_eqb, not-true, not-false, ltb-true}
-use lib.Dec.{T, leb, eqb}
+use lib.Dec.{leb, eqb}
 use lib.IntN.{ℤ, pos, negsuc, nat_abs, ◌-ℤ◌, ◌*ℤ◌}
-use lib.Signed.{le_z, lt_z, non_neg}
+use lib.Signed.{le_z, lt_z}
 use mir.Syntax.{w64}
-use mir.Val.{SFits, Fits, of_z}
+use mir.Val.{SFits, of_z}
 use Rattle.whole.specs.Sizes.{Size}
-use Rattle.whole.proofs.Order.{abs_minus, minus_is, natural, nonneg, not_neg}
-use Rattle.whole.proofs.Sizes.{sfits, sfits_abs, size_fits}
+use Rattle.whole.proofs.Order.{abs_minus, minus_is}
+use Rattle.whole.proofs.Sizes.{sfits, size_fits}
 use Rattle.number.specs.Root.{root_up_of}
 use Rattle.plane.specs.Vectors.{Near, Short, same_number, from_to, cross_of, square_of}
 use Rattle.plane.proofs.Products.{bits, back, size_back, eq_bits, from_to_short, cross_size}
@@ -26,8 +29,6 @@ use Rattle.contacts.proofs.Contacts.{centre_is}
 use Rattle.contacts.proofs.Steps.{radius_fits}
 use Rattle.contacts.specs.declared.Vertex.{Vertex}
 use Rattle.contacts.specs.declared.Section.{Section}
-use Rattle.contacts.specs.declared.Last.{Last}
-use Rattle.contacts.specs.declared.Last.TheVariants.{Nothing, Held}
 
 -- ---- the corners of a section's quadrilateral, and ways between near points
 
@@ -76,17 +77,19 @@ module _ (turn z : ℤ) (f : SFits w64 turn) (h : Size (2 ^ 61) z) where
 
 -- ---- a side
 
+-- a number is at least 0 or below it
+at_least : (z : ℤ) → le_z (pos 0) z ≡ not (lt_z z (pos 0))
+at_least (pos n) = grind (arith, nat_tests)
+at_least (negsuc n) = refl
+
+pub not_below : (z : ℤ) → le_z (pos 0) z ≡ true → lt_z z (pos 0) ≡ false
+not_below z e = not-true (lt_z z (pos 0)) (sym (at_least z) ∙ e)
+
+pub below : (z : ℤ) → le_z (pos 0) z ≡ false → lt_z z (pos 0) ≡ true
+below z e = not-false (lt_z z (pos 0)) (sym (at_least z) ∙ e)
+
 pub cross_back : {u v : Vector} {r : ℤ} → r ≡ cross_of u v → Short u → Short v → Size (2 ^ 61) (bits r)
 cross_back e h k = rw e (size_back (size_fits (2 ^ 61) w64 _ (cross_size h k) tt) (cross_size h k))
-
--- what a cast to an unsigned number asks for
-pub radius_cast : {r : ℤ} → Radius r → T (non_neg (bits r)) × Fits w64 (nat_abs (bits r))
-radius_cast {r} h = rw (back (radius_fits h)) (nonneg r (natural h.low).1, record { fits = omega (arith, h.high) })
-
-pub inward_cast : {z : ℤ} → SFits w64 z → lt_z (bits z) (pos 0) ≡ false → T (non_neg (bits z)) × Fits w64 (nat_abs (bits z))
-inward_cast {z} f e =
-    let t : lt_z z (pos 0) ≡ false = rw (back f) at e in
-    rw (back f) (nonneg z (not_neg z t).1, record { fits = omega (arith, sfits_abs f) })
 
 -- a radius times a length, and a number below 0 or not
 above_negative : (r z : ℤ) (n : ℕ) → Radius r → lt_z z (pos 0) ≡ true → le_z (r *ℤ pos n) z ≡ false
@@ -114,62 +117,51 @@ module _ (r z : ℤ) (n : ℕ) {i : Bool} (h : Radius r) (f : SFits w64 z) (e : 
       let g' : y ≡ leb (nat_abs r * n) (nat_abs z) = rw (back (radius_fits h), back f) at g in
       g' ∙ sym (e ∙ above_natural r z n h (rw (back f) at t))
 
--- ---- all sides, one after another, with the turn z
+-- ---- all sides, one after another, with the turn z: each test holds where the one before holds and its own does
 
-and_false : (x : Bool) → x && false ≡ false
-and_false true = refl
-and_false false = refl
+and_swap : (x y z : Bool) → (x && y && z) ≡ (x && z && y)
+and_swap true y true = simp and-true
+and_swap true y false = simp and-false
+and_swap false y z = refl
 
 module _ (s : Section) (b : Vertex) {z : ℤ} (e : z ≡ turn_of s) (f : SFits w64 z) where
-  side : (p q : Point) {x y : Bool} → x ≡ inside_of (bits z) b p q → x ≡ y → inside_of (turn_of s) b p q ≡ y
-  side p q {x} g t = let g' : x ≡ inside_of (turn_of s) b p q = rw (back f, e) at g in sym g' ∙ t
+  side : (p q : Point) {x y : Bool} → y ≡ x → x ≡ inside_of (bits z) b p q → y ≡ inside_of (turn_of s) b p q
+  side p q h g = h ∙ rw (back f, e) at g
 
   flat : {y : Bool} → eqb (of_z w64 z) 0 ≡ y → same_number (turn_of s) (pos 0) ≡ y
   flat g = rw (← e) (sym (eq_bits z (pos 0) f.sfits (omega arith)) ∙ g)
 
-  pub covers_flat : of_z w64 z ≡ 0 → false ≡ covers_of s b
-  unfolding covers_of
-  covers_flat t = rw (flat (eq-eqb (of_z w64 z) 0 t))
+  module _ (p q : Point) {y : Bool} where
+    pub turned : {x : Bool} → (of_z w64 z ≡ 0 → ⊥) → y ≡ x → x ≡ inside_of (bits z) b p q → y ≡ (not (same_number (turn_of s) (pos 0)) && inside_of (turn_of s) b p q)
+    turned t h g = rw (flat (ne_eqb (of_z w64 z) 0 t)) (side p q h g)
 
-  module _ (t : of_z w64 z ≡ 0 → ⊥) {x₁ : Bool} (g₁ : x₁ ≡ inside_of (bits z) b s.left.b s.right.b) where
-    turns : same_number (turn_of s) (pos 0) ≡ false
-    turns = flat (ne_eqb (of_z w64 z) 0 t)
+    pub not_turned : of_z w64 z ≡ 0 → y ≡ not (eqb (of_z w64 z) 0) → y ≡ (not (same_number (turn_of s) (pos 0)) && inside_of (turn_of s) b p q)
+    not_turned t h = rw (flat (eq-eqb (of_z w64 z) 0 t)) (h ∙ ap not (eq-eqb (of_z w64 z) 0 t))
 
-    pub covers_first : not x₁ ≡ true → false ≡ covers_of s b
-    unfolding covers_of
-    covers_first k = rw (turns, side s.left.b s.right.b g₁ (not-true x₁ k), and_false)
+    pub and_side : {x : Bool} (u : Bool) → u ≡ true → y ≡ x → x ≡ inside_of (bits z) b p q → y ≡ (u && inside_of (turn_of s) b p q)
+    and_side u t h g = rw t (side p q h g)
 
-    module _ (k₁ : not x₁ ≡ false) {x₂ : Bool} (g₂ : x₂ ≡ inside_of (bits z) b s.left.a s.left.b) where
-      first : inside_of (turn_of s) b s.left.b s.right.b ≡ true
-      first = side s.left.b s.right.b g₁ (not-false x₁ k₁)
+    pub not_side : (u : Bool) → u ≡ false → y ≡ u → y ≡ (u && inside_of (turn_of s) b p q)
+    not_side u t h = rw t (h ∙ t)
 
-      pub covers_second : not x₂ ≡ true → false ≡ covers_of s b
-      unfolding covers_of
-      covers_second k = rw (turns, side s.left.a s.left.b g₂ (not-true x₂ k))
-
-      module _ (k₂ : not x₂ ≡ false) {x₃ : Bool} (g₃ : x₃ ≡ inside_of (bits z) b s.right.b s.right.a) where
-        second : inside_of (turn_of s) b s.left.a s.left.b ≡ true
-        second = side s.left.a s.left.b g₂ (not-false x₂ k₂)
-
-        pub covers_third : not x₃ ≡ true → false ≡ covers_of s b
-        unfolding covers_of
-        covers_third k = rw (turns, first, second, side s.right.b s.right.a g₃ (not-true x₃ k))
-
-        pub covers_fourth : {x₄ : Bool} → not x₃ ≡ false → x₄ ≡ inside_of (bits z) b s.right.a s.left.a → x₄ ≡ covers_of s b
-        unfolding covers_of
-        covers_fourth {x₄} k g₄ = rw (turns, first, second, side s.right.b s.right.a g₃ (not-false x₃ k), side s.right.a s.left.a g₄ refl)
+pub covers_sides : (s : Section) (b : Vertex) (u v w : Bool) {r : Bool}
+    → u ≡ (not (same_number (turn_of s) (pos 0)) && inside_of (turn_of s) b s.left.b s.right.b) → v ≡ (u && inside_of (turn_of s) b s.left.a s.left.b)
+    → w ≡ (v && inside_of (turn_of s) b s.right.b s.right.a) → r ≡ (w && inside_of (turn_of s) b s.right.a s.left.a) → r ≡ covers_of s b
+unfolding covers_of
+covers_sides s b u v w d e f g =
+    rw (f, e, d, and_swap (not (same_number (turn_of s) (pos 0))) (inside_of (turn_of s) b s.left.b s.right.b) (inside_of (turn_of s) b s.left.a s.left.b)) at g
 
 -- ---- the section of the previous step, if it was drawn
 
-pub covered_nothing : (l : Last) (b : Vertex) → l ≡ Nothing → false ≡ covered_of l b
+pub covered_nothing : (l : Option Section) (b : Vertex) → l ≡ None → false ≡ covered_of l b
 unfolding covered_of
 covered_nothing l b e = rw e
 
-pub held_around : (l : Last) {s : Section} → l ≡ Held s → AroundLast l → Around s
+pub held_around : (l : Option Section) {s : Section} → l ≡ Some s → AroundLast l → Around s
 unfolding AroundLast
 held_around l e h = rw e at h
 
-module _ (l : Last) (b : Vertex) {s : Section} {z : ℤ} (e : l ≡ Held s) (h : Inside b) (f : z ≡ larger_of s.a s.b) (k : SFits w64 z) where
+module _ (l : Option Section) (b : Vertex) {s : Section} {z : ℤ} (e : l ≡ Some s) (h : Inside b) (f : z ≡ larger_of s.a s.b) (k : SFits w64 z) where
   pub covered_not : lt_z (bits b.radius) (bits z) ≡ false → false ≡ covered_of l b
   unfolding covered_of
   covered_not t =

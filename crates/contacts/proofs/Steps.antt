@@ -1,15 +1,20 @@
 -- Vertices, radii, the kinds of step and the trend: one law for each case, with what the code has computed, on bits where it is signed, as
 -- variables and equations. Assumes nothing.
 use mathlib.Core.Path.{◌≡◌, refl, ap, ◌∙◌}
-use mathlib.Core.Bool.{Bool, true, false}
+use mathlib.Core.Bool.{Bool, true, false, cond}
 use Prim.Native.Nat.{ℕ, ◌*◌, ◌^◌, ◌≤◌, ◌<◌}
 use native.Mathlib.Nat.{mul-le-mul}
 use native.Mathlib.Omega.{arith}
 use borrow.Author.Tests.{le-leb, lt-leb}
-use lib.IntN.{ℤ, pos, nat_abs, ◌-ℤ◌}
+use lib.IntN.{ℤ, pos, negsuc, nat_abs, ◌-ℤ◌}
 use lib.Signed.{le_z, lt_z}
 use mir.Syntax.{w64}
 use mir.Val.{SFits}
+use Rattle.std.specs.Int.{int_max}
+use Rattle.std.specs.Ordering.{int_cmp}
+use Rattle.std.specs.declared.cmp.Ordering.{Ordering}
+use Rattle.std.specs.declared.cmp.Ordering.TheVariants.{Less, Equal, Greater}
+use Rattle.std.proofs.lemmas.Bool.Decides.{nat_tests}
 use Rattle.whole.proofs.Sizes.{sfits}
 use Rattle.plane.specs.Vectors.{Near, Short, square_of}
 use Rattle.plane.proofs.Products.{bits, back}
@@ -21,6 +26,7 @@ use Rattle.contacts.specs.Bounds.{Inside}
 use Rattle.turning.proofs.Limits.{centre_near}
 use Rattle.contacts.proofs.Contacts.{centre_is, line_is, delta_most}
 use Rattle.contacts.specs.declared.Vertex.{Vertex}
+use Rattle.contacts.specs.declared.Trend.{Trend}
 use Rattle.contacts.specs.declared.Trend.TheVariants.{Decreasing, Constant, Increasing}
 use Rattle.contacts.specs.declared.Kind.TheVariants.{Broken, Drawn, Thin}
 
@@ -62,14 +68,19 @@ module _ {a b : Vertex} (h : Inside a) (k : Inside b) where
 
 -- ---- the larger radius
 
-module _ (a b : Vertex) (h : SFits w64 a.radius) (k : SFits w64 b.radius) where
-  pub larger_second : lt_z (bits a.radius) (bits b.radius) ≡ true → bits b.radius ≡ larger_of a b
-  unfolding larger_of
-  larger_second e = let t : lt_z a.radius b.radius ≡ true = rw (back h, back k) at e in rw (t, larger_of) (back k)
+max_larger : (x y : ℤ) → int_max x y ≡ cond (lt_z x y) y x
+max_larger (pos m) (pos n) = grind (arith, nat_tests)
+max_larger (pos m) (negsuc n) = refl
+max_larger (negsuc m) (pos n) = refl
+max_larger (negsuc m) (negsuc n) = grind (arith, nat_tests)
 
-  pub larger_first : lt_z (bits a.radius) (bits b.radius) ≡ false → bits a.radius ≡ larger_of a b
-  unfolding larger_of
-  larger_first e = let t : lt_z a.radius b.radius ≡ false = rw (back h, back k) at e in rw (t, larger_of) (back h)
+pub larger_is : (a b : Vertex) {z : ℤ} → SFits w64 a.radius → SFits w64 b.radius → SFits w64 z → z ≡ int_max (bits a.radius) (bits b.radius) → bits z ≡ larger_of a b
+unfolding larger_of
+larger_is a b h k l e = back l ∙ (rw (back h, back k) at e) ∙ go (lt_z a.radius b.radius) refl
+  where
+    go : (x : Bool) → lt_z a.radius b.radius ≡ x → int_max a.radius b.radius ≡ larger_of a b
+    go true f = max_larger a.radius b.radius ∙ rw (f, larger_of)
+    go false f = max_larger a.radius b.radius ∙ rw (f, larger_of)
 
 -- ---- the kinds of step
 
@@ -113,19 +124,23 @@ module _ (a b : Vertex) {z : ℤ} (e : broken_of a b ≡ false) (f : z ≡ large
 
 -- ---- the trend
 
-module _ (a b : Vertex) (h : SFits w64 a.radius) (k : SFits w64 b.radius) where
-  pub trend_falls : lt_z (bits b.radius) (bits a.radius) ≡ true → Decreasing ≡ trend_of a b
-  unfolding trend_of
-  trend_falls e = let t : lt_z b.radius a.radius ≡ true = rw (back h, back k) at e in rw (t, trend_of)
+abbrev pub trend_in : Ordering → Trend
+trend_in Less = Increasing
+trend_in Equal = Constant
+trend_in Greater = Decreasing
 
-  module _ (e : lt_z (bits b.radius) (bits a.radius) ≡ false) where
-    not_falls : lt_z b.radius a.radius ≡ false
-    not_falls = rw (back h, back k) at e
+trend_orders : (x y : ℤ) → trend_in (int_cmp x y) ≡ cond (lt_z y x) Decreasing (cond (lt_z x y) Increasing Constant)
+trend_orders (pos m) (pos n) = grind (arith, nat_tests)
+trend_orders (pos m) (negsuc n) = refl
+trend_orders (negsuc m) (pos n) = refl
+trend_orders (negsuc m) (negsuc n) = grind (arith, nat_tests)
 
-    pub trend_grows : lt_z (bits a.radius) (bits b.radius) ≡ true → Increasing ≡ trend_of a b
-    unfolding trend_of
-    trend_grows f = let t : lt_z a.radius b.radius ≡ true = rw (back h, back k) at f in rw (not_falls, t, trend_of)
-
-    pub trend_stays : lt_z (bits a.radius) (bits b.radius) ≡ false → Constant ≡ trend_of a b
-    unfolding trend_of
-    trend_stays f = let t : lt_z a.radius b.radius ≡ false = rw (back h, back k) at f in rw (not_falls, t, trend_of)
+pub trend_is : (a b : Vertex) {o : Ordering} → o ≡ int_cmp a.radius b.radius → trend_in o ≡ trend_of a b
+unfolding trend_of
+trend_is a b e = ap trend_in e ∙ trend_orders a.radius b.radius ∙ go (lt_z b.radius a.radius) (lt_z a.radius b.radius) refl refl
+  where
+    go : (x y : Bool) → lt_z b.radius a.radius ≡ x → lt_z a.radius b.radius ≡ y
+        → cond (lt_z b.radius a.radius) Decreasing (cond (lt_z a.radius b.radius) Increasing Constant) ≡ trend_of a b
+    go true y f g = rw (f, trend_of)
+    go false true f g = rw (f, g, trend_of)
+    go false false f g = rw (f, g, trend_of)

@@ -2,11 +2,10 @@
 use mathlib.Core.Path.{◌≡◌, refl, ap, ◌∙◌}
 use mathlib.Core.Bool.{Bool, false, ◌&&◌}
 use Prim.Native.Nat.{ℕ, ◌-◌, ◌*◌, ◌%◌, ◌^◌, ◌≤◌, ◌<◌}
-use native.Mathlib.Nat.{mul-le-mul_right, one-mul, mod-eq_of_lt, le_of_lt}
+use native.Mathlib.Nat.{mul-le-mul_right, mod-eq_of_lt, le_of_lt}
 use native.Mathlib.Omega.{arith}
 use lib.Dec.{lt→ltb}
 use lib.IntN.{ℤ, pos, neg_ℤ, nat_abs, ◌+ℤ◌, ◌-ℤ◌, ◌*ℤ◌}
-use lib.Pow.{pow-lt}
 use lib.Signed.{◌<ℤ◌, lt_z_yes}
 use mir.Syntax.{w64}
 use mir.Val.{SFits, to_z}
@@ -49,15 +48,6 @@ module _ (sq k : ℕ) (h : 0 < sq) (l : sq ≤ 2 ^ 59) (e : k ≡ shift_of sq) w
 
 -- ---- a scaled delta
 
-one_shifted : (k : ℕ) → k ≤ 31 → 1 * 2 ^ k % 2 ^ 64 ≡ 2 ^ k
-one_shifted k h = rw (one-mul (2 ^ k)) (mod-eq_of_lt (pow-lt {i = k} {j = 64} (omega arith)))
-
-pub one_fits : (k : ℕ) → k ≤ 31 → SFits w64 (pos (1 * 2 ^ k % 2 ^ 64))
-one_fits k h = rw (one_shifted k h) (sfits (pow-lt {i = k} {j = 63} (omega arith)))
-
-one_read : (k : ℕ) → k ≤ 31 → to_z w64 (1 * 2 ^ k % 2 ^ 64) ≡ pos (2 ^ k)
-one_read k h = ap (to_z w64) (one_shifted k h) ∙ to_z_pos w64 (pow-lt {i = k} {j = 63} (omega arith))
-
 module _ (a : ℤ) (k : ℕ) (f : SFits w64 a) (h : nat_abs a * 2 ^ k ≤ 2 ^ 32) where
   lifted_size : Size (2 ^ 32) (a *ℤ pos (2 ^ k))
   lifted_size = record { size = omega (arith, abs_mul a (pos (2 ^ k))) }
@@ -65,27 +55,19 @@ module _ (a : ℤ) (k : ℕ) (f : SFits w64 a) (h : nat_abs a * 2 ^ k ≤ 2 ^ 32
   lifted_fits : SFits w64 (a *ℤ pos (2 ^ k))
   lifted_fits = size_fits (2 ^ 32) w64 _ lifted_size tt
 
-  pub scaled_fits : k ≤ 31 → SFits w64 (bits a *ℤ to_z w64 (1 * 2 ^ k % 2 ^ 64))
-  scaled_fits l = rw (back f, one_read k l) lifted_fits
-
-  pub scaled_back : k ≤ 31 → bits (bits a *ℤ to_z w64 (1 * 2 ^ k % 2 ^ 64)) ≡ a *ℤ pos (2 ^ k)
-  scaled_back l = rw (back f, one_read k l) (back lifted_fits)
-
   pub scaled_size : {e : ℤ} → e ≡ bits a *ℤ pos (2 ^ k) → Size (2 ^ 32) (bits e)
   scaled_size {e} g = let g' : e ≡ a *ℤ pos (2 ^ k) = rw (back f) at g in rw g' (size_back lifted_fits lifted_size)
 
--- ---- a numerator: for `search (needs, sides)`
+-- ---- a numerator
 
 pub product_fits : {a b : ℤ} → Size (2 ^ 32) a → Size (2 ^ 29) b → SFits w64 (a *ℤ b)
 product_fits h k = size_fits (2 ^ 61) w64 _ (size_mul (2 ^ 32) (2 ^ 29) _ _ h k) tt
 
-pub sum_fits : {a b c d : ℤ} → Size (2 ^ 32) a → Size (2 ^ 29) b → Size (2 ^ 32) c → Size (2 ^ 29) d → SFits w64 (a *ℤ b +ℤ c *ℤ d)
+sum_fits : {a b c d : ℤ} → Size (2 ^ 32) a → Size (2 ^ 29) b → Size (2 ^ 32) c → Size (2 ^ 29) d → SFits w64 (a *ℤ b +ℤ c *ℤ d)
 sum_fits h k i j = size_fits (2 ^ 62) w64 _ (size_add (2 ^ 61) (2 ^ 61) _ _ (size_mul (2 ^ 32) (2 ^ 29) _ _ h k) (size_mul (2 ^ 32) (2 ^ 29) _ _ i j)) tt
 
-pub difference_fits : {a b c d : ℤ} → Size (2 ^ 32) a → Size (2 ^ 29) b → Size (2 ^ 32) c → Size (2 ^ 29) d → SFits w64 (a *ℤ b -ℤ c *ℤ d)
+difference_fits : {a b c d : ℤ} → Size (2 ^ 32) a → Size (2 ^ 29) b → Size (2 ^ 32) c → Size (2 ^ 29) d → SFits w64 (a *ℤ b -ℤ c *ℤ d)
 difference_fits h k i j = size_fits (2 ^ 62) w64 _ (size_sub (2 ^ 61) (2 ^ 61) _ _ (size_mul (2 ^ 32) (2 ^ 29) _ _ h k) (size_mul (2 ^ 32) (2 ^ 29) _ _ i j)) tt
-
-pub ruleset sides = (product_fits, sum_fits, difference_fits)
 
 wide_fits : {a : ℤ} → Size (2 ^ 32) a → SFits w64 a
 wide_fits h = size_fits (2 ^ 32) w64 _ h tt
@@ -93,16 +75,27 @@ wide_fits h = size_fits (2 ^ 32) w64 _ h tt
 pub wide_back : {a : ℤ} → Size (2 ^ 32) a → Size (2 ^ 32) (bits a)
 wide_back h = size_back (wide_fits h) h
 
-pub numerator_back : (v : Vector) (delta t : ℤ) (k : ℕ) {e p q : ℤ} → Line v → SFits w64 delta → nat_abs delta * 2 ^ k ≤ 2 ^ 32 → Size (2 ^ 32) t → e ≡ bits delta *ℤ pos (2 ^ k)
-    → p ≡ bits e *ℤ bits v.x -ℤ bits t *ℤ bits v.y → q ≡ bits e *ℤ bits v.y +ℤ bits t *ℤ bits v.x
-    → record { x = bits p; y = bits q } ≡ numerator_of v delta k t
+-- differences and sums of two such products
+module _ {a b c d : ℤ} (h : Size (2 ^ 32) a) (k : Size (2 ^ 29) b) (i : Size (2 ^ 32) c) (j : Size (2 ^ 29) d) where
+  pub less_fits : SFits w64 (bits (a *ℤ b) -ℤ bits (c *ℤ d))
+  less_fits = rw (back (product_fits h k), back (product_fits i j)) (difference_fits h k i j)
+
+  pub more_fits : SFits w64 (bits (a *ℤ b) +ℤ bits (c *ℤ d))
+  more_fits = rw (back (product_fits h k), back (product_fits i j)) (sum_fits h k i j)
+
+  less_back : bits (bits (a *ℤ b) -ℤ bits (c *ℤ d)) ≡ a *ℤ b -ℤ c *ℤ d
+  less_back = rw (back less_fits, back (product_fits h k), back (product_fits i j))
+
+  more_back : bits (bits (a *ℤ b) +ℤ bits (c *ℤ d)) ≡ a *ℤ b +ℤ c *ℤ d
+  more_back = rw (back more_fits, back (product_fits h k), back (product_fits i j))
+
+pub numerator_back : (v : Vector) (delta t : ℤ) (k : ℕ) {e : ℤ} → Line v → SFits w64 delta → nat_abs delta * 2 ^ k ≤ 2 ^ 32 → Size (2 ^ 32) t → e ≡ bits delta *ℤ pos (2 ^ k)
+    → record { x = bits (bits (bits e *ℤ bits v.x) -ℤ bits (bits t *ℤ bits v.y)); y = bits (bits (bits e *ℤ bits v.y) +ℤ bits (bits t *ℤ bits v.x)) } ≡ numerator_of v delta k t
 unfolding numerator_of
-numerator_back v delta t k {e} {p} {q} h f l i g a b =
+numerator_back v delta t k {e} h f l i g =
     let s = lifted_size delta k f l in
     let g' : e ≡ delta *ℤ pos (2 ^ k) = rw (back f) at g in
-    let a' : p ≡ delta *ℤ pos (2 ^ k) *ℤ v.x -ℤ t *ℤ v.y = rw (g', back (wide_fits s), back (wide_fits i), back (near_fits h.x), back (near_fits h.y)) at a in
-    let b' : q ≡ delta *ℤ pos (2 ^ k) *ℤ v.y +ℤ t *ℤ v.x = rw (g', back (wide_fits s), back (wide_fits i), back (near_fits h.x), back (near_fits h.y)) at b in
-    rw (a', b', back (difference_fits s h.x i h.y), back (sum_fits s h.y i h.x), mul_right_commℤ delta v.x (pos (2 ^ k)), mul_right_commℤ delta v.y (pos (2 ^ k)))
+    rw (g', back (wide_fits s), back (wide_fits i), back (near_fits h.x), back (near_fits h.y), less_back s h.x i h.y, more_back s h.y i h.x, mul_right_commℤ delta v.x (pos (2 ^ k)), mul_right_commℤ delta v.y (pos (2 ^ k)))
 
 -- ---- both numerators
 

@@ -1,13 +1,11 @@
 -- What the limits leave of vertices and sections: what the functions below the calls ask for.
-use Rattle.std.specs.Prelude.{◌^◌}
+use Rattle.std.specs.Prelude.{◌^◌, Option, Some, None}
 use Rattle.whole.specs.Sizes.{Size}
 use Rattle.plane.specs.declared.Vector.{Vector}
 use Rattle.turning.specs.Bounds.{Radius, About}
 use Rattle.contacts.specs.Contacts.{centre_of}
 use Rattle.contacts.specs.declared.Vertex.{Vertex}
 use Rattle.contacts.specs.declared.Section.{Section}
-use Rattle.contacts.specs.declared.Last.{Last}
-use Rattle.contacts.specs.declared.Last.TheVariants.{Nothing, Held}
 
 -- a vertex within the limits
 pub record Inside (v : Vertex) : Type 0 where
@@ -30,6 +28,6 @@ pub record Around (s : Section) : Type 0 where
   pub right_b : About (centre_of s.b) s.right.b
 
 -- the section that may be held
-unfoldable pub AroundLast : Last → Type 0
-AroundLast Nothing = Unit {0}
-AroundLast (Held s) = Around s
+unfoldable pub AroundLast : Option Section → Type 0
+AroundLast None = Unit {0}
+AroundLast (Some s) = Around s

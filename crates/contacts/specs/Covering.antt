@@ -1,5 +1,5 @@
 -- Document 01, "Chains": covering (`covers_circle`).
-use Rattle.std.specs.Prelude.{Bool, true, false, not, ◌&&◌, ℤ, pos, neg_ℤ, ◌*ℤ◌}
+use Rattle.std.specs.Prelude.{Bool, true, false, not, ◌&&◌, ℤ, pos, neg_ℤ, ◌*ℤ◌, Option, Some, None}
 use Rattle.std.specs.Int.Signed.{le_z, lt_z}
 use Rattle.number.specs.Root.{root_up_of}
 use Rattle.plane.specs.Vectors.{same_number, from_to, cross_of, square_of}
@@ -7,8 +7,6 @@ use Rattle.plane.specs.declared.Point.{Point}
 use Rattle.contacts.specs.Contacts.{centre_of, larger_of}
 use Rattle.contacts.specs.declared.Vertex.{Vertex}
 use Rattle.contacts.specs.declared.Section.{Section}
-use Rattle.contacts.specs.declared.Last.{Last}
-use Rattle.contacts.specs.declared.Last.TheVariants.{Nothing, Held}
 
 -- The quadrilateral is a_left, b_left, b_right, a_right: its turn at the second corner.
 unfoldable pub turn_of : Section → ℤ
@@ -32,6 +30,6 @@ covers_of s b =
     && inside_of (turn_of s) b s.right.a s.left.a
 
 -- The larger radius of the previous step exceeds rb, and the previous step was drawn and its quadrilateral covers b's circle.
-unfoldable pub covered_of : Last → Vertex → Bool
-covered_of Nothing b = false
-covered_of (Held s) b = lt_z b.radius (larger_of s.a s.b) && covers_of s b
+unfoldable pub covered_of : Option Section → Vertex → Bool
+covered_of None b = false
+covered_of (Some s) b = lt_z b.radius (larger_of s.a s.b) && covers_of s b

@@ -7,7 +7,7 @@ pub mod limits;
 pub mod math;
 pub mod sections;
 
-// A vertex of a path.
+// A vertex of a path. It has no invariant: what is lent may lie outside the limits, and `limits::allowed` tells.
 #[derive(Clone, Copy)]
 pub struct Vertex {
     pub x: i64,
@@ -37,7 +37,8 @@ pub struct ExactSides {
     pub right: Exactness,
 }
 
-// A drawn step from a to b: its contacts, from a's to b's, on the left and on the right, and which of them are exact.
+// A drawn step from a to b: its contacts, from a's to b's, on the left and on the right, and which of them are exact. It has no invariant: a chain
+// or a walk of any sections can be made anew, so a type that holds `Around` would ask more of those who call `Chain::start` and `thin`.
 #[derive(Clone, Copy)]
 pub struct Section {
     pub a: Vertex,
@@ -54,11 +55,4 @@ pub enum Kind {
     Broken,
     Drawn,
     Thin,
-}
-
-// The last drawn section, if there is one.
-#[derive(Clone, Copy)]
-pub enum Last {
-    Nothing,
-    Held(Section),
 }

@@ -4,24 +4,12 @@ ghost use Rattle.contacts.specs.Limits.{allowed_of};
 
 use crate::Vertex;
 
+// How far a coordinate may be from 0, and how large a radius may be.
+const MOST: i64 = 268435456;
+
 // Whether a vertex is within the limits.
 pub fn allowed(v: Vertex) -> bool
     ensures { result ≡ allowed_of v }
 {
-    if !(-268435456 <= v.x) {
-        return false;
-    }
-    if !(v.x <= 268435456) {
-        return false;
-    }
-    if !(-268435456 <= v.y) {
-        return false;
-    }
-    if !(v.y <= 268435456) {
-        return false;
-    }
-    if !(0 <= v.radius) {
-        return false;
-    }
-    v.radius <= 268435456
+    (-MOST..=MOST).contains(&v.x) && (-MOST..=MOST).contains(&v.y) && (0..=MOST).contains(&v.radius)
 }

@@ -1,5 +1,5 @@
 // What a step's contacts are made of, and what kind of step it is; follows src/mesh/int/variable_stroke/math.rs.
-ghost use Rattle.std.specs.Prelude.{◌≡◌, ◌&&◌, ◌*◌, ◌^◌, ◌<◌, ◌≤◌, nat_abs, pos, neg_ℤ, ◌+ℤ◌, ◌-ℤ◌, ◌*ℤ◌};
+ghost use Rattle.std.specs.Prelude.{◌≡◌, ◌*◌, ◌^◌, ◌<◌, ◌≤◌, nat_abs, pos, neg_ℤ, ◌+ℤ◌, ◌-ℤ◌, ◌*ℤ◌};
 ghost use Rattle.whole.specs.Sizes.{Size};
 ghost use Rattle.number.specs.MulDiv.{mul_div_of, exact_of};
 ghost use Rattle.plane.specs.Vectors.{square_of};
@@ -10,7 +10,6 @@ use crate::{Exactness, Kind, Vertex};
 use number::division::mul_div;
 use number::guess::near_root;
 use number::root::root;
-use number::sign::size;
 use plane::vectors::{from_to, square};
 use plane::{Point, Vector};
 use turning::Edge;
@@ -42,11 +41,7 @@ pub fn delta(a: Vertex, b: Vertex) -> i64
 pub fn larger(a: Vertex, b: Vertex) -> i64
     ensures { result ≡ larger_of a b }
 {
-    if a.radius < b.radius {
-        b.radius
-    } else {
-        a.radius
-    }
+    a.radius.max(b.radius)
 }
 
 // What the step from a to b is.
@@ -54,11 +49,10 @@ pub fn kind(a: Vertex, b: Vertex) -> Kind
     requires { Inside a × Inside b }
     ensures { result ≡ kind_of a b }
 {
-    let d = size(delta(a, b));
+    let d = delta(a, b).unsigned_abs();
     if square(line(a, b)) <= d * d {
-        return Kind::Broken;
-    }
-    if 2 <= larger(a, b) {
+        Kind::Broken
+    } else if 2 <= larger(a, b) {
         Kind::Drawn
     } else {
         Kind::Thin
@@ -70,7 +64,7 @@ pub fn shift(sq: u64) -> u32
     requires { (0 < sq) × (sq ≤ 2 ^ 59) }
     ensures { result ≡ shift_of sq }
 {
-    (u64::leading_zeros(sq) - 1) / 2
+    (sq.leading_zeros() - 1) / 2
 }
 
 // The root of sq less delta's square, to k binary places.
@@ -78,7 +72,7 @@ fn tangent(sq: u64, delta: i64, k: u32) -> u32
     requires { (nat_abs delta * nat_abs delta < sq) × (sq ≤ 2 ^ 59) × (k ≡ shift_of sq) }
     ensures { result ≡ tangent_of sq delta }
 {
-    let d = size(delta);
+    let d = delta.unsigned_abs();
     let n = (sq - d * d) << (2 * k);
     root(n, near_root(n))
 }
@@ -88,24 +82,7 @@ fn scaled(a: i64, k: u32) -> i64
     requires { (nat_abs a * 2 ^ k ≤ 2 ^ 32) × (k ≤ 31) }
     ensures { result ≡ a *ℤ pos (2 ^ k) }
 {
-    let one: u64 = 1;
-    a * (one << k) as i64
-}
-
-// a * b - c * d.
-fn difference(a: i64, b: i64, c: i64, d: i64) -> i64
-    requires { Size (2 ^ 32) a × Size (2 ^ 29) b × Size (2 ^ 32) c × Size (2 ^ 29) d }
-    ensures { result ≡ a *ℤ b -ℤ c *ℤ d }
-{
-    a * b - c * d
-}
-
-// a * b + c * d.
-fn sum(a: i64, b: i64, c: i64, d: i64) -> i64
-    requires { Size (2 ^ 32) a × Size (2 ^ 29) b × Size (2 ^ 32) c × Size (2 ^ 29) d }
-    ensures { result ≡ a *ℤ b +ℤ c *ℤ d }
-{
-    a * b + c * d
+    a * (1 << k)
 }
 
 // The numerator of the contacts on one side, with that side's tangent.
@@ -115,8 +92,8 @@ fn numerator(v: Vector, delta: i64, k: u32, t: i64) -> Vector
 {
     let e = scaled(delta, k);
     Vector {
-        x: difference(e, v.x, t, v.y),
-        y: sum(e, v.y, t, v.x),
+        x: e * v.x - t * v.y,
+        y: e * v.y + t * v.x,
     }
 }
 
@@ -138,10 +115,9 @@ pub fn tangent_offsets(v: Vector, delta: i64) -> Offsets
     let sq = square(v);
     let k = shift(sq);
     let t = tangent(sq, delta, k) as i64;
-    let minus = 0 - t;
     Offsets {
         left: numerator(v, delta, k, t),
-        right: numerator(v, delta, k, minus),
+        right: numerator(v, delta, k, -t),
         divisor: sq << k,
     }
 }
@@ -159,8 +135,10 @@ fn moved(x: i64, radius: i64, n: i64, divisor: u64) -> Coordinate
     ensures { (result.to ≡ x +ℤ mul_div_of radius n divisor) × (result.exact ≡ exact_of radius n divisor) }
 {
     let q = mul_div(radius, n, divisor as i64);
-    let to = x + q.value;
-    Coordinate { to, exact: q.exact }
+    Coordinate {
+        to: x + q.value,
+        exact: q.exact,
+    }
 }
 
 // A contact, and whether it is exact: neither division left anything over.
@@ -170,13 +148,6 @@ pub struct Touch {
     pub exact: bool,
 }
 
-// Whether both are true.
-fn both(x: bool, y: bool) -> bool
-    ensures { result ≡ x && y }
-{
-    x && y
-}
-
 // The contact of v for the numerator n.
 fn contact(divisor: u64, n: Vector, v: Vertex) -> Touch
     requires { Inside v × (square_of n ≤ divisor * divisor) × (0 < divisor) × (divisor < 2 ^ 62) }
@@ -184,10 +155,9 @@ fn contact(divisor: u64, n: Vector, v: Vertex) -> Touch
 {
     let x = moved(v.x, v.radius, n.x, divisor);
     let y = moved(v.y, v.radius, n.y, divisor);
-    let point = Point { x: x.to, y: y.to };
     Touch {
-        point,
-        exact: both(x.exact, y.exact),
+        point: Point { x: x.to, y: y.to },
+        exact: x.exact && y.exact,
     }
 }
 
@@ -206,12 +176,14 @@ pub fn contacts(divisor: u64, n: Vector, a: Vertex, b: Vertex) -> Side
 {
     let from = contact(divisor, n, a);
     let to = contact(divisor, n, b);
-    let start = from.point;
-    let end = to.point;
-    let edge = Edge { a: start, b: end };
-    let exact = Exactness {
-        a: from.exact,
-        b: to.exact,
-    };
-    Side { edge, exact }
+    Side {
+        edge: Edge {
+            a: from.point,
+            b: to.point,
+        },
+        exact: Exactness {
+            a: from.exact,
+            b: to.exact,
+        },
+    }
 }

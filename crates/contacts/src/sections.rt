@@ -7,22 +7,20 @@ ghost use Rattle.contacts.specs.Contacts.{trend_of, broken_of, section_of};
 ghost use Rattle.contacts.specs.Covering.{turn_of, inward_of, inside_of, covers_of, covered_of};
 
 use crate::math::{centre, contacts, delta, larger, line, tangent_offsets};
-use crate::{ExactSides, Last, Section, Trend, Vertex};
+use crate::{ExactSides, Section, Trend, Vertex};
 use number::root::times_root_up_at_most;
 use plane::Point;
 use plane::vectors::{cross, from_to, square};
+use std::cmp::Ordering;
 
 // Whether the radius falls, stays or grows from a to b.
 pub fn trend(a: Vertex, b: Vertex) -> Trend
     ensures { result ≡ trend_of a b }
 {
-    if b.radius < a.radius {
-        return Trend::Decreasing;
-    }
-    if a.radius < b.radius {
-        Trend::Increasing
-    } else {
-        Trend::Constant
+    match a.radius.cmp(&b.radius) {
+        Ordering::Greater => Trend::Decreasing,
+        Ordering::Equal => Trend::Constant,
+        Ordering::Less => Trend::Increasing,
     }
 }
 
@@ -32,26 +30,18 @@ pub fn section(a: Vertex, b: Vertex) -> Section
     ensures { result ≡ section_of a b }
 {
     let offsets = tangent_offsets(line(a, b), delta(a, b));
-    let divisor = offsets.divisor;
-    let left_numerator = offsets.left;
-    let right_numerator = offsets.right;
-    let left_side = contacts(divisor, left_numerator, a, b);
-    let right_side = contacts(divisor, right_numerator, a, b);
-    let left = left_side.edge;
-    let right = right_side.edge;
-    let left_exact = left_side.exact;
-    let right_exact = right_side.exact;
-    let exact = ExactSides {
-        left: left_exact,
-        right: right_exact,
-    };
+    let left = contacts(offsets.divisor, offsets.left, a, b);
+    let right = contacts(offsets.divisor, offsets.right, a, b);
     Section {
         a,
         b,
-        left,
-        right,
+        left: left.edge,
+        right: right.edge,
         trend: trend(a, b),
-        exact,
+        exact: ExactSides {
+            left: left.exact,
+            right: right.exact,
+        },
     }
 }
 
@@ -60,10 +50,7 @@ fn turn(s: Section) -> i64
     requires { Around s }
     ensures { result ≡ turn_of s }
 {
-    let a_left = s.left.a;
-    let b_left = s.left.b;
-    let b_right = s.right.b;
-    cross(from_to(a_left, b_left), from_to(b_left, b_right))
+    cross(from_to(s.left.a, s.left.b), from_to(s.left.b, s.right.b))
 }
 
 // The cross product z, counted inwards.
@@ -71,7 +58,7 @@ fn inward(turn: i64, z: i64) -> i64
     requires { Size (2 ^ 61) z }
     ensures { result ≡ inward_of turn z }
 {
-    if turn < 0 { 0 - z } else { z }
+    if turn < 0 { -z } else { z }
 }
 
 // Whether the circle of b lies on the inner side of the line from p to q: the inward cross product is at least the radius times the length, rounded up.
@@ -81,10 +68,7 @@ pub fn inside(turn: i64, b: Vertex, p: Point, q: Point) -> bool
 {
     let v = from_to(p, q);
     let z = inward(turn, cross(v, from_to(p, centre(b))));
-    if z < 0 {
-        return false;
-    }
-    times_root_up_at_most(b.radius as u64, square(v), z as u64)
+    z >= 0 && times_root_up_at_most(b.radius as u64, square(v), z as u64)
 }
 
 // Whether a section's quadrilateral covers the circle of b.
@@ -92,42 +76,22 @@ pub fn covers_circle(s: Section, b: Vertex) -> bool
     requires { Around s × Inside b }
     ensures { result ≡ covers_of s b }
 {
-    let a_left = s.left.a;
-    let b_left = s.left.b;
-    let b_right = s.right.b;
-    let a_right = s.right.a;
     let t = turn(s);
-    if t == 0 {
-        return false;
-    }
     // the end's side first: a path that goes on is outside that one
-    if !inside(t, b, b_left, b_right) {
-        return false;
-    }
-    if !inside(t, b, a_left, b_left) {
-        return false;
-    }
-    if !inside(t, b, b_right, a_right) {
-        return false;
-    }
-    inside(t, b, a_right, a_left)
+    t != 0
+        && inside(t, b, s.left.b, s.right.b)
+        && inside(t, b, s.left.a, s.left.b)
+        && inside(t, b, s.right.b, s.right.a)
+        && inside(t, b, s.right.a, s.left.a)
 }
 
 // Whether the section of the previous step, if it was drawn, covers the circle of b, and one of its radii exceeds b's.
-pub fn covered(last: Last, b: Vertex) -> bool
+pub fn covered(last: Option<Section>, b: Vertex) -> bool
     requires { AroundLast last × Inside b }
     ensures { result ≡ covered_of last b }
 {
     match last {
-        Last::Nothing => false,
-        Last::Held(s) => {
-            let v = s.a;
-            let w = s.b;
-            if b.radius < larger(v, w) {
-                covers_circle(s, b)
-            } else {
-                false
-            }
-        },
+        None => false,
+        Some(s) => b.radius < larger(s.a, s.b) && covers_circle(s, b),
     }
 }

@@ -1,4 +1,6 @@
 -- What convert makes of a store: a refusal of its rows, the row of the grade named, and of a store that passed both its outline drawn anew. Assumes nothing.
+use Rattle.std.specs.Prelude.{Result, Err}
+use mathlib.Core.Logic.{◌⊎◌, inl, inr}
 use mathlib.Core.Path.{◌≡◌, refl, sym, ap, ◌∙◌}
 use mathlib.Core.Bool.{true}
 use mathlib.Core.List.{List, [], ◌∷◌, ◌++◌}
@@ -7,7 +9,6 @@ use native.Mathlib.Omega.{arith}
 use lib.IntN.{ℤ}
 use lib.ListN.{length, take, replicate, length-take}
 use Rattle.runs.specs.Runs.{spread}
-use Rattle.turning.specs.Bounds.{Radius}
 use Rattle.contacts.specs.declared.Vertex.{Vertex}
 use Rattle.paths.specs.Paths.{path_of, path_numbers, Within}
 use Rattle.kerb.specs.declared.Style.{Style}
@@ -19,22 +20,18 @@ use Rattle.outline.specs.declared.Edition.{Edition}
 use Rattle.outline.specs.declared.Form.{Form}
 use Rattle.outline.specs.declared.Form.TheVariants.{Stroke, Kerb}
 use Rattle.replies.specs.Replies.{draw_grade_row}
-use Rattle.replies.specs.Refusals.{refusal_of}
+use Rattle.replies.specs.Refusals.{refusal_of, reply_of}
 use Rattle.replies.specs.declared.Refusal.{Refusal}
 use Rattle.replies.specs.declared.Refusal.TheVariants.{Grade}
 use Rattle.replies.proofs.Rows.{first_holds, first_skip, grade_drawn, grade_retired, grade_above, refused_written}
 use Rattle.heading.specs.Shows.{point_numbers}
 use Rattle.heading.specs.declared.Header.{Header}
-use Rattle.heading.specs.declared.Checked.{Checked}
-use Rattle.heading.specs.declared.Checked.TheVariants.{Refused}
 use Rattle.heading.proofs.Shown.{path_back}
 use Rattle.checking.specs.StoreChecks.{StoreSays}
 use Rattle.checking.proofs.StoreReads.{store_refuses, store_passes, header_count, header_length, kerb_radius}
 use Rattle.checking.proofs.StorePassed.{kerb_suits}
 use Rattle.checking.specs.Known.{Passed}
-use Rattle.converting.specs.Converting.{converted_of, convert_reply, convert_out, reply_of_converted, ConvertsOutline, Redraws}
-use Rattle.converting.specs.declared.Converted.{Converted}
-use Rattle.converting.specs.declared.Converted.TheVariants as converted
+use Rattle.converting.specs.Converting.{converted_of, convert_reply, convert_out, ConvertsOutline, Redraws}
 
 -- ---- a path within the limits at one grade is so at another
 
@@ -54,31 +51,29 @@ pairs_count (v ∷ vs) = omega (arith, pairs_count vs)
 
 -- ---- the rows
 
-pub convert_refused : {s : List ℕ} {p : List ℤ} {c : Checked} {r : Refusal} (g : ℕ) → c ≡ Refused r → StoreSays s p c → ConvertsOutline s g (converted.Refused r) s
-unfolding reply_of_converted convert_reply convert_out
+pub convert_refused : {s : List ℕ} {p : List ℤ} {c : Result Header Refusal} {r : Refusal} (g : ℕ) → c ≡ Err r → StoreSays s p c → ConvertsOutline s g (Err r) s
+unfolding convert_reply convert_out
 convert_refused {s} {r = r} g e a =
     let f : refusal_of r ≡ convert_reply s g = store_refuses _ _ a e in
     record { reply = f; store = refused_written r (converted_of s g ++ replicate (length_in s - length (converted_of s g)) 0) s f }
 
 module _ {s : List ℕ} {p : List ℤ} {h : Header} (a : Passed s p h) where
-  not_drawn : {g : ℕ} → (draw_grade_row g).0 ≡ true → ConvertsOutline s g (converted.Refused (Grade g)) s
-  unfolding reply_of_converted convert_reply convert_out refusal_of draw_grade_row
+  not_drawn : {g : ℕ} → (draw_grade_row g).0 ≡ true → ConvertsOutline s g (Err (Grade g)) s
+  unfolding convert_reply convert_out draw_grade_row
   not_drawn {g} e =
       let f : (3, g) ≡ convert_reply s g = sym (store_passes _ _ a.sound ∙ first_holds (draw_grade_row g) _ _ e) in
       record { reply = f; store = refused_written (Grade g) (converted_of s g ++ replicate (length_in s - length (converted_of s g)) 0) s f }
 
-  pub convert_retired : {g : ℕ} → g < 2 → ConvertsOutline s g (converted.Refused (Grade g)) s
-  convert_retired l = not_drawn (grade_retired l)
+  pub convert_undrawn : {g : ℕ} → (g < 2) ⊎ ((2 ≤ g) × (8 < g)) → ConvertsOutline s g (Err (Grade g)) s
+  convert_undrawn (inl l) = not_drawn (grade_retired l)
+  convert_undrawn (inr l) = not_drawn (grade_above l.0 l.1)
 
-  pub convert_above : {g : ℕ} → 2 ≤ g → 8 < g → ConvertsOutline s g (converted.Refused (Grade g)) s
-  convert_above low l = not_drawn (grade_above low l)
-
-  pub convert_done : {g old : ℕ} (f : Form) (ps : List ℕ) (vs : List Vertex) {r : Converted} {s₁ : List ℕ} → 2 ≤ g → g ≤ 8 → f ≡ form_in s → ps ≡ posts_in s → vs ≡ path_in s → old ≡ length_in s
+  pub convert_done : {g old : ℕ} (f : Form) (ps : List ℕ) (vs : List Vertex) {r : Result ℕ Refusal} {s₁ : List ℕ} → 2 ≤ g → g ≤ 8 → f ≡ form_in s → ps ≡ posts_in s → vs ≡ path_in s → old ≡ length_in s
       → Redraws s f g ps vs old r s₁ → ConvertsOutline s g r s₁
   unfolding converted_of convert_reply convert_out
   convert_done {g} f ps vs {r} {s₁} low high ef eq ev eo w =
       let w' : Redraws s (form_in s) g (posts_in s) (path_in s) (length_in s) r s₁ = rw (ef, eq, ev, eo) at w in
-      let e : reply_of_converted r ≡ convert_reply s g = w'.reply ∙ sym (store_passes _ _ a.sound ∙ first_skip (draw_grade_row g ∷ []) _ _ (grade_drawn low high, tt)) in
+      let e : reply_of r ≡ convert_reply s g = w'.reply ∙ sym (store_passes _ _ a.sound ∙ first_skip (draw_grade_row g ∷ []) _ _ (grade_drawn low high, tt)) in
       record { reply = e; store = rw e at w'.bytes }
 
   -- where the old outline ends
@@ -94,10 +89,13 @@ module _ {s : List ℕ} {p : List ℤ} {h : Header} (a : Passed s p h) where
         let q : take (3 * h.n) p ≡ path_numbers (path_in s) = rw f at a.path in
         ap (λ (k : ℕ). path_of (take k p)) z ∙ ap path_of q ∙ path_back (path_in s)
 
-    pub stroke_held : {g : ℕ} → 2 ≤ g → g ≤ 8 → (h.n ≡ length (path_of (take e p))) × Within g (path_of (take e p))
-    stroke_held low high = (header_count a.sound.head ∙ ap length (sym stroke_path), rw stroke_path (within_at a.sound.within low high))
+    pub stroke_counted : h.n ≡ length (path_of (take e p))
+    stroke_counted = header_count a.sound.head ∙ ap length (sym stroke_path)
 
-    pub stroke_converts : {g old : ℕ} (qs : List ℕ) {r : Converted} {s₁ : List ℕ} → 2 ≤ g → g ≤ 8 → qs ≡ posts_in s → old ≡ length_of (Stroke d) h.n h.m
+    pub stroke_within : {g : ℕ} → 2 ≤ g → g ≤ 8 → Within g (path_of (take e p))
+    stroke_within low high = rw stroke_path (within_at a.sound.within low high)
+
+    pub stroke_converts : {g old : ℕ} (qs : List ℕ) {r : Result ℕ Refusal} {s₁ : List ℕ} → 2 ≤ g → g ≤ 8 → qs ≡ posts_in s → old ≡ length_of (Stroke d) h.n h.m
         → Redraws s (Stroke d) g qs (path_of (take e p)) old r s₁ → ConvertsOutline s g r s₁
     stroke_converts qs low high eq eo w = convert_done (Stroke d) qs (path_of (take e p)) low high (sym f ∙ a.sound.head.form) eq stroke_path (old_end f eo) w
 
@@ -122,9 +120,12 @@ module _ {s : List ℕ} {p : List ℤ} {h : Header} (a : Passed s p h) where
       kerb_points : kerb_path y.radius (take e p) ≡ path_in s
       kerb_points = ap (λ (k : ℕ). kerb_path y.radius (take k p)) z ∙ ap (kerb_path y.radius) kerb_numbers ∙ points_again y.radius (path_in s) suits.1
 
-      pub kerb_held : {g : ℕ} → 2 ≤ g → g ≤ 8 → (h.n ≡ length (kerb_path y.radius (take e p))) × Within g (kerb_path y.radius (take e p)) × Radius y.radius
-      kerb_held low high = (header_count a.sound.head ∙ ap length (sym kerb_points), rw kerb_points (within_at a.sound.within low high), suits.0)
+      pub kerb_counted : h.n ≡ length (kerb_path y.radius (take e p))
+      kerb_counted = header_count a.sound.head ∙ ap length (sym kerb_points)
 
-      pub kerb_converts : {g old : ℕ} {r : Converted} {s₁ : List ℕ} → 2 ≤ g → g ≤ 8 → old ≡ length_of (Kerb y) h.n h.m
+      pub kerb_within : {g : ℕ} → 2 ≤ g → g ≤ 8 → Within g (kerb_path y.radius (take e p))
+      kerb_within low high = rw kerb_points (within_at a.sound.within low high)
+
+      pub kerb_converts : {g old : ℕ} {r : Result ℕ Refusal} {s₁ : List ℕ} → 2 ≤ g → g ≤ 8 → old ≡ length_of (Kerb y) h.n h.m
           → Redraws s (Kerb y) g [] (kerb_path y.radius (take e p)) old r s₁ → ConvertsOutline s g r s₁
       kerb_converts low high eo w = convert_done (Kerb y) [] (kerb_path y.radius (take e p)) low high (sym f ∙ a.sound.head.form) (sym suits.2) kerb_points (old_end f eo) w

@@ -1,9 +1,9 @@
 -- A converted store byte for byte: the outline that keeping writes, zeros, and the rest as it was. Assumes nothing.
 use mathlib.Core.Path.{◌≡◌, refl, sym, ap, subst, ◌∙◌}
 use mathlib.Core.List.{List, [], ◌∷◌, ◌++◌, append_assoc}
-use Prim.Native.Nat.{ℕ, ◌+◌, ◌-◌, ◌*◌, ◌%◌, ◌≤◌, ◌<◌}
+use Prim.Native.Nat.{ℕ, ◌+◌, ◌<◌}
 use native.Mathlib.Omega.{arith}
-use lib.IntN.{ℤ, pos}
+use lib.IntN.{pos}
 use lib.ListN.{length, take, drop, replicate, length-append, length-replicate}
 use lib.Seq.{take_at, drop_at}
 use Rattle.runs.specs.Runs.{spread}
@@ -12,10 +12,10 @@ use Rattle.kerb.specs.Styles.{style_of}
 use Rattle.kerb.proofs.StyleNumbers.{style_radius}
 use Rattle.kerb_paths.specs.Points.{kerb_path}
 use Rattle.outline.specs.Outlines.{edges_for, outline_bytes}
-use Rattle.outline.specs.Stores.{form_in, length_in, path_in, posts_in}
+use Rattle.outline.specs.Stores.{path_in, posts_in}
 use Rattle.outline.specs.declared.Edition.TheVariants.{Second}
 use Rattle.outline.specs.declared.Form.{Form}
-use Rattle.outline.specs.declared.Form.TheVariants.{Stroke, Kerb}
+use Rattle.outline.specs.declared.Form.TheVariants.{Stroke}
 use Rattle.outline.proofs.ReadBack.{numbers_count}
 use Rattle.replies.specs.Replies.{Reply, draw_grade_row}
 use Rattle.replies.proofs.Rows.{rows_append, first_skip, grade_drawn, room_enough}

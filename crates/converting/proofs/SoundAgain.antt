@@ -2,7 +2,6 @@
 use mathlib.Core.Path.{◌≡◌, refl, sym, ap, ◌∙◌}
 use mathlib.Core.List.{List, [], ◌∷◌, ◌++◌, append_assoc}
 use Prim.Native.Nat.{ℕ, ◌-◌, ◌≤◌}
-use borrow.Author.Tests.{ltb-false}
 use lib.ListN.{length, drop, replicate}
 use Rattle.outline.specs.Stores.{form_in, length_in, path_in, posts_in}
 use Rattle.outline.specs.Theorems.{Formed}
@@ -29,10 +28,6 @@ module _ (s : List ℕ) (g : ℕ) (h : (convert_reply s g).0 ≡ 0) where
 
   pub grade_named : (2 ≤ g) × (g ≤ 8)
   grade_named = grade_from g convert_none.1.0
-
-  pub convert_room : length new ≤ length s
-  unfolding room_row
-  convert_room = ltb-false _ _ convert_none.1.1.0
 
   -- the number with the reply
   pub convert_long : convert_reply s g ≡ (0, length new)

@@ -1,5 +1,5 @@
 -- Document 02, request 13: convert redraws a kept outline in place at the grade that its caller names; its answer, its promise, and what it leaves.
-use Rattle.std.specs.Prelude.{◌≡◌, true, List, [], ◌∷◌, ◌++◌, ℕ, ◌+◌, ◌-◌, ◌≤◌, ◌<◌, length, take, drop, replicate}
+use Rattle.std.specs.Prelude.{◌≡◌, true, List, [], ◌∷◌, ◌++◌, ℕ, ◌+◌, ◌-◌, ◌≤◌, ◌<◌, length, take, drop, replicate, Result}
 use Rattle.runs.specs.Runs.{spread}
 use Rattle.contacts.specs.declared.Vertex.{Vertex}
 use Rattle.paths.specs.Paths.{path_numbers}
@@ -10,14 +10,13 @@ use Rattle.outline.specs.declared.Form.{Form}
 use Rattle.outline.specs.declared.Form.TheVariants.{Stroke, Kerb}
 use Rattle.kerb.specs.Styles.{style_of}
 use Rattle.replies.specs.Replies.{Reply, first_row, draw_grade_row, room_row, written}
-use Rattle.replies.specs.Refusals.{refusal_of}
+use Rattle.replies.specs.Refusals.{reply_of}
+use Rattle.replies.specs.declared.Refusal.{Refusal}
 use Rattle.replies.specs.StyleRows.{style_fault}
 use Rattle.heading.specs.Shows.{point_numbers}
 use Rattle.heading.specs.StoreRows.{store_rows}
 use Rattle.keeping.specs.Keeping.{keep_reply, keep_out}
 use Rattle.kerb_keeping.specs.KerbKeeping.{keep_kerb_reply, keep_kerb_out}
-use Rattle.converting.specs.declared.Converted.{Converted}
-use Rattle.converting.specs.declared.Converted.TheVariants as converted
 
 -- ---- the outline of the store's own path, form and posts at the grade g
 
@@ -36,22 +35,18 @@ convert_out s g =
     let made = converted_of s g in
     written (convert_reply s g) (made ++ replicate (length_in s - length made) 0) s
 
-unfoldable pub reply_of_converted : Converted → Reply
-reply_of_converted (converted.Bytes n) = (0, n)
-reply_of_converted (converted.Refused r) = refusal_of r
-
 -- the promise: reply, number and every byte of the store afterwards
-pub record ConvertsOutline (store₀ : List ℕ) (grade : ℕ) (answer : Converted) (store₁ : List ℕ) : Type 0 where
-  pub reply : reply_of_converted answer ≡ convert_reply store₀ grade
+pub record ConvertsOutline (store₀ : List ℕ) (grade : ℕ) (answer : Result ℕ Refusal) (store₁ : List ℕ) : Type 0 where
+  pub reply : reply_of answer ≡ convert_reply store₀ grade
   pub store : store₁ ≡ convert_out store₀ grade
 
 abbrev pub OneConverting : Type 0
-OneConverting = (s : List ℕ) (g : ℕ) (r q : Converted) (o p : List ℕ) → ConvertsOutline s g r o → ConvertsOutline s g q p → (r ≡ q) × (o ≡ p)
+OneConverting = (s : List ℕ) (g : ℕ) (r q : Result ℕ Refusal) (o p : List ℕ) → ConvertsOutline s g r o → ConvertsOutline s g q p → (r ≡ q) × (o ≡ p)
 
 -- the outline of a path and its posts over the bytes s₀, in which an old one ends at `old`: the row of the room replies, and after 0 it is written
-pub record Redraws (s₀ : List ℕ) (f : Form) (g : ℕ) (ps : List ℕ) (vs : List Vertex) (old : ℕ) (answer : Converted) (s₁ : List ℕ) : Type 0 where
-  pub reply : reply_of_converted answer ≡ first_row (room_row (length (outline_bytes f g ps vs)) (length s₀) (length (outline_bytes f g ps vs)) ∷ []) (0, length (outline_bytes f g ps vs))
-  pub bytes : s₁ ≡ written (reply_of_converted answer) (outline_bytes f g ps vs ++ replicate (old - length (outline_bytes f g ps vs)) 0) s₀
+pub record Redraws (s₀ : List ℕ) (f : Form) (g : ℕ) (ps : List ℕ) (vs : List Vertex) (old : ℕ) (answer : Result ℕ Refusal) (s₁ : List ℕ) : Type 0 where
+  pub reply : reply_of answer ≡ first_row (room_row (length (outline_bytes f g ps vs)) (length s₀) (length (outline_bytes f g ps vs)) ∷ []) (0, length (outline_bytes f g ps vs))
+  pub bytes : s₁ ≡ written (reply_of answer) (outline_bytes f g ps vs ++ replicate (old - length (outline_bytes f g ps vs)) 0) s₀
 
 -- ---- what it leaves
 

@@ -1,16 +1,15 @@
 -- A store without notes is sound, and a sound one has none. Assumes nothing.
-use mathlib.Core.Path.{◌≡◌, refl, sym, ap, subst, ◌∙◌}
+use mathlib.Core.Path.{◌≡◌, sym, ap, ◌∙◌}
 use mathlib.Core.Bool.{true}
 use mathlib.Core.List.{List, [], ◌∷◌, ◌++◌, append_assoc}
-use Prim.Native.Nat.{ℕ, zero, suc, ◌+◌, ◌*◌, ◌^◌, ◌≤◌, ◌<◌}
+use Prim.Native.Nat.{ℕ, zero, suc, ◌+◌, ◌*◌, ◌≤◌}
 use native.Mathlib.Omega.{arith}
 use lib.ListN.{length, get_or, take, drop, length-take, length-drop, drop_of_length-le}
 use lib.Seq.{get_or-drop, drop-cons, take-add}
 use Rattle.runs.specs.Runs.{spread}
 use Rattle.runs.proofs.Laws.{spread-append}
 use Rattle.turning.specs.declared.Edge.{Edge}
-use Rattle.contacts.specs.declared.Vertex.{Vertex}
-use Rattle.paths.specs.Paths.{bodies_of, joined, edges_of}
+use Rattle.paths.specs.Paths.{bodies_of, edges_of}
 use Rattle.words.specs.Words.{four_bytes, bytes_of, words_in, word_at}
 use Rattle.outline.specs.Layout.{edition_number, stroke_words, header_words, front_bytes, length_of}
 use Rattle.outline.specs.Outlines.{style_words, header_of, table_of, body_words, parts_words, outline_words, outline_bytes}
@@ -20,7 +19,7 @@ use Rattle.outline.specs.declared.Edition.{Edition}
 use Rattle.outline.specs.declared.Form.{Form}
 use Rattle.outline.specs.declared.Form.TheVariants.{Stroke}
 use Rattle.outline.proofs.FormLengths.{entries_four}
-use Rattle.outline.proofs.ReadBack.{path_count_in, form_stroke, bodies_count, outline_length, header_word, same_list, sound_is, small_suits, sound_suits}
+use Rattle.outline.proofs.ReadBack.{path_count_in, form_stroke, bodies_count, outline_length, header_word, same_list, sound_is, small_suits}
 use Rattle.outline.proofs.Differing.{words_again, words_count, five, word_small}
 use Rattle.outline.proofs.BodiesInBytes.{edges_told, body-bytes}
 use Rattle.differences.specs.Differences.{old_at, differences_from, total_number, differences_of, differences_in, notes_in}

@@ -1,19 +1,19 @@
 -- A table is that of its own vertices and posts once its counts are those of the bodies. Assumes nothing.
 use mathlib.Core.Path.{◌≡◌, refl, sym, ap, ◌∙◌}
 use mathlib.Core.Bool.{Bool, true, false}
-use mathlib.Core.List.{List, [], ◌∷◌, ◌++◌}
+use mathlib.Core.List.{List, [], ◌∷◌}
 use Prim.Native.Nat.{ℕ, zero, suc, ◌+◌, ◌-◌, ◌*◌, ◌^◌, ◌≤◌, ◌<◌}
-use native.Mathlib.Nat.{add-zero, add_comm}
+use native.Mathlib.Nat.{add-zero}
 use native.Mathlib.Numerals.{add-one}
 use native.Mathlib.Omega.{arith}
-use borrow.Author.Tests.{ltb-true, ltb-false, lt-ltb, le-ltb}
+use borrow.Author.Tests.{lt-ltb, le-ltb}
 use lib.Dec.{ltb}
 use lib.IntN.{ℤ, pos, negsuc}
 use lib.ListN.{length, get_or, take, drop}
 use lib.Seq.{get_or-drop, drop-drop}
 use Rattle.turning.specs.declared.Edge.{Edge}
 use Rattle.words.specs.Words.{word_of, number_of, words_in, word_at}
-use Rattle.outline.specs.Layout.{count_place, stroke_words, entry_at}
+use Rattle.outline.specs.Layout.{count_place, stroke_words}
 use Rattle.outline.specs.Outlines.{post_words, entry_of, table_of}
 use Rattle.outline.specs.Stores.{edition_in, edition_of, count_in, radius_in, entries_in, post_in, posts_from, edges_in}
 use Rattle.outline.specs.declared.Edition.{Edition}

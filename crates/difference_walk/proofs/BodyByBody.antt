@@ -1,14 +1,14 @@
 -- Where the comparison of the bodies has come to, vertex by vertex. Assumes nothing.
 use mathlib.Core.Path.{◌≡◌, refl, sym, ap, ◌∙◌}
 use mathlib.Core.List.{List, [], ◌∷◌, ◌++◌}
-use Prim.Native.Nat.{ℕ, suc, ◌+◌, ◌*◌, ◌/◌, ◌^◌, ◌≤◌, ◌<◌}
+use Prim.Native.Nat.{ℕ, ◌+◌, ◌*◌, ◌/◌, ◌^◌, ◌≤◌, ◌<◌}
 use native.Mathlib.Numerals.{add-one}
 use native.Mathlib.Nat.{zero-add}
 use native.Mathlib.Omega.{arith}
 use lib.IntN.{ℤ}
 use lib.ListN.{length, get_or, set, take, drop, drop_of_length-le, length-append}
 use lib.Seq.{drop-cons}
-use Rattle.runs.specs.Runs.{spread, Runs, put}
+use Rattle.runs.specs.Runs.{Runs, put}
 use Rattle.runs.proofs.Laws.{runs_as, runs_to, runs_then}
 use Rattle.runs.proofs.Onward.{Onward, onward_start, onward_step, onward_as, onward_done}
 use Rattle.runs.proofs.Written.{onward_length}
@@ -28,7 +28,6 @@ use Rattle.paths.specs.Paths.{none, bodies_from, bodies_at, bodies_of, joined, e
 use Rattle.paths.proofs.PathWalk.{edges-none, edges-start, edges_step, edges_end, inside_at, around_next}
 use Rattle.words.specs.Words.{words_of, word_at}
 use Rattle.outline.specs.Layout.{edge_bytes, front_bytes}
-use Rattle.outline.specs.Outlines.{body_words}
 use Rattle.outline.specs.Stores.{edges_in, edges_before}
 use Rattle.outline.specs.declared.Edition.{Edition}
 use Rattle.outline.specs.declared.Form.TheVariants.{Stroke}
@@ -37,7 +36,7 @@ use Rattle.outline.proofs.OwnNumbers.{own_count, own_words}
 use Rattle.outline.proofs.Parts.{body-none}
 use Rattle.outline.proofs.ReadBack.{few_edges}
 use Rattle.differences.specs.Differences.{old_at, difference_of, differences_from, total_number, differences_of}
-use Rattle.differences.specs.Bodies.{single, Fronted, OwnEdges, DifferenceTold, BodyTold, BodiesTold}
+use Rattle.differences.specs.Bodies.{single, Fronted, OwnEdges, DifferenceTold, BodyTold}
 use Rattle.differences.specs.declared.bodies.Differing.{Differing}
 use Rattle.differences.proofs.Notes.{single_run}
 

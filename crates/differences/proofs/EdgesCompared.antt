@@ -1,16 +1,16 @@
 -- The edges of one body, compared as numbers, and its old count, read in its table. Assumes nothing.
 use mathlib.Core.Path.{◌≡◌, refl, sym, ap, ◌∙◌}
-use mathlib.Core.Bool.{Bool, true, false, not}
+use mathlib.Core.Bool.{Bool, true, false}
 use mathlib.Core.List.{List, [], ◌∷◌}
 use Prim.Native.Nat.{ℕ, zero, suc, ◌+◌, ◌-◌, ◌*◌, ◌≤◌, ◌<◌, min}
 use native.Mathlib.Nat.{min-eq_left, min-eq_right}
 use native.Mathlib.Omega.{arith}
-use borrow.Author.Tests.{eqb-true, leb-true, leb-false, eq-eqb, ne_eqb, lt-ltb, le-ltb}
+use borrow.Author.Tests.{leb-true, leb-false, eq-eqb, ne_eqb, lt-ltb, le-ltb}
 use lib.Dec.{eqb, leb}
 use lib.IntN.{ℤ}
 use lib.ListN.{length, take, drop}
 use lib.Seq.{take_all, take-length, take-take, length-take-le}
-use Rattle.runs.specs.Runs.{spread, over, Runs, agree}
+use Rattle.runs.specs.Runs.{spread, Runs, agree}
 use Rattle.turning.specs.Edges.{edge_numbers}
 use Rattle.turning.specs.declared.Edge.{Edge}
 use Rattle.words.specs.Words.{word_of, words_of, four_bytes, bytes_of, word_at}
@@ -18,7 +18,7 @@ use Rattle.words.proofs.Bytes.{bytes-length}
 use Rattle.words.proofs.NumberRuns.{words-length}
 use Rattle.outline.specs.Layout.{count_place, stroke_words, stroke_bytes, entry_at, front_bytes}
 use Rattle.outline.specs.Outlines.{body_words}
-use Rattle.outline.specs.Stores.{edition_in, edition_of, count_in, same_bytes, first_differing, edges_in}
+use Rattle.outline.specs.Stores.{count_in, same_bytes, first_differing, edges_in}
 use Rattle.outline.specs.declared.Edition.{Edition}
 use Rattle.outline.specs.declared.Edition.TheVariants.{First, Second}
 use Rattle.outline.specs.declared.Form.TheVariants.{Stroke}

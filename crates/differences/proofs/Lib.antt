@@ -1,3 +1,4 @@
 -- The crate's own laws.
 pub mod EdgesCompared
+pub mod Fronted
 pub mod Notes

@@ -2,7 +2,7 @@
 use mathlib.Core.Path.{◌≡◌, refl, sym, ap, ◌∙◌}
 use mathlib.Core.Bool.{Bool, true, false}
 use mathlib.Core.List.{List, [], ◌∷◌, ◌++◌}
-use Prim.Native.Nat.{ℕ, suc, ◌+◌, ◌*◌, ◌≤◌, ◌<◌}
+use Prim.Native.Nat.{ℕ, ◌+◌, ◌*◌, ◌≤◌, ◌<◌}
 use native.Mathlib.Numerals.{add-one}
 use native.Mathlib.Nat.{zero-add}
 use native.Mathlib.Omega.{arith}
@@ -12,8 +12,8 @@ use lib.ListN.{length, get_or, set, drop, drop_of_length-le}
 use lib.Seq.{drop-cons}
 use Rattle.runs.specs.Runs.{spread, over, Runs, put}
 use Rattle.runs.proofs.Laws.{runs_none}
-use Rattle.runs.proofs.Onward.{Onward, onward_start, onward_step, onward_as, onward_done}
-use Rattle.runs.proofs.Written.{written_whole, onward_length}
+use Rattle.runs.proofs.Onward.{Onward, onward_step, onward_as, onward_done}
+use Rattle.runs.proofs.Written.{written_whole}
 use Rattle.differences.specs.Differences.{note_of, notes_from}
 use Rattle.differences.specs.Bodies.{single}
 
@@ -61,9 +61,6 @@ pub record NotesOn (ds l₀ l : List ℕ) (place at : ℕ) : Type 0 where
   pub most : at ≤ 2 * place
   pub few : place ≤ length ds
 
-pub notes_start : (ds l : List ℕ) → NotesOn ds l l 0 0
-notes_start ds l = record { on = onward_start; most = omega arith; few = omega arith }
-
 module _ {ds l₀ l : List ℕ} {place at : ℕ} (p : NotesOn ds l₀ l place at) where
   next : place < length ds → notes_from place (drop place ds) ≡ note_of place (get_or ds place 0) ++ notes_from (place + 1) (drop (place + 1) ds)
   unfolding notes_from
@@ -81,6 +78,3 @@ module _ {ds l₀ l : List ℕ} {place at : ℕ} (p : NotesOn ds l₀ l place at
   notes_done h =
       let e : notes_from place (drop place ds) ≡ [] = ap (notes_from place) (drop_of_length-le ds h) in
       onward_done (onward_as e p.on) runs_none
-
-  pub notes_length : length l ≡ length l₀
-  notes_length = onward_length p.on

@@ -2,4 +2,5 @@
 #![tactic(auto)]
 
 pub mod bodies;
+pub mod fronts;
 pub mod noting;

@@ -31,13 +31,9 @@ pub fn put_notes(differing: &[u32], list: &mut [u32]) -> usize
     requires { length differing.now ≤ 4098 }
     ensures { Runs put single list.old 0 (notes_from 0 differing.now) list.new result }
 {
-    let n = differing.len();
-    let mut place: usize = 0;
-    let mut at: usize = 0;
-    while place < n {
-        let what = differing[place];
-        at = put_note(list, at, place, what);
-        place += 1;
+    let mut at = 0;
+    for (place, what) in differing.iter().enumerate() {
+        at = put_note(list, at, place, *what);
     }
     at
 }

@@ -1,12 +1,11 @@
 -- Document 01, "Replies, tested in this order": draw, its answer and its promise. Its row 18 is document 02's, request 9, and grade 1 is retired by request 13.
-use Rattle.std.specs.Prelude.{List, [], ◌∷◌, ◌++◌, ℕ, ◌*◌, ◌%◌, ◌≤◌, ◌<◌, ℤ, length, ◌≡◌}
+use Rattle.std.specs.Prelude.{List, [], ◌∷◌, ◌++◌, ℕ, ◌*◌, ◌%◌, ◌≤◌, ◌<◌, ℤ, length, ◌≡◌, Result}
 use Rattle.runs.specs.Runs.{spread}
 use Rattle.turning.specs.Edges.{edge_numbers}
 use Rattle.paths.specs.Paths.{path_of, edges_of, Within}
 use Rattle.replies.specs.Replies.{Reply, first_row, empty_row, room_row, path_rows, written}
-use Rattle.drawing.specs.declared.Drawn.{Drawn}
-use Rattle.drawing.specs.declared.Drawn.TheVariants as drawn
-use Rattle.replies.specs.Refusals.{refusal_of}
+use Rattle.replies.specs.Refusals.{reply_of}
+use Rattle.replies.specs.declared.Refusal.{Refusal}
 
 -- ---- draw a path's edges into lent numbers, four an edge
 
@@ -18,14 +17,10 @@ draw_reply l g room =
 unfoldable pub draw_out : List ℤ → ℕ → List ℤ → List ℤ
 draw_out l g room = written (draw_reply l g (length room)) (spread edge_numbers (edges_of g (path_of l))) room
 
-unfoldable pub reply_of_drawn : Drawn → Reply
-reply_of_drawn (drawn.Edges m) = (0, m)
-reply_of_drawn (drawn.Refused r) = refusal_of r
-
 -- ---- the promises: reply, number and every lent number or byte afterwards
 
-pub record Draws (path : List ℤ) (grade : ℕ) (out₀ : List ℤ) (answer : Drawn) (out₁ : List ℤ) : Type 0 where
-  pub reply : reply_of_drawn answer ≡ draw_reply path grade (length out₀)
+pub record Draws (path : List ℤ) (grade : ℕ) (out₀ : List ℤ) (answer : Result ℕ Refusal) (out₁ : List ℤ) : Type 0 where
+  pub reply : reply_of answer ≡ draw_reply path grade (length out₀)
   pub out : out₁ ≡ draw_out path grade out₀
 
 -- Numbers lent as triples, a grade from 2 on, vertices within the limits, an edge where there are vertices (document 02, request 9) and room enough are drawn.
@@ -36,4 +31,4 @@ PathIsDrawn = (path : List ℤ) (g room : ℕ) → length path % 3 ≡ 0 → 2 �
 
 -- Each call has one outcome: two that its promise allows coincide.
 abbrev pub OneDrawing : Type 0
-OneDrawing = (path : List ℤ) (g : ℕ) (out : List ℤ) (r q : Drawn) (o p : List ℤ) → Draws path g out r o → Draws path g out q p → (r ≡ q) × (o ≡ p)
+OneDrawing = (path : List ℤ) (g : ℕ) (out : List ℤ) (r q : Result ℕ Refusal) (o p : List ℤ) → Draws path g out r o → Draws path g out q p → (r ≡ q) × (o ≡ p)

@@ -1,8 +1,9 @@
 -- Another vertex in the path of a store: among its numbers, within the limits, and what replace then replies. Assumes nothing.
+use Rattle.std.specs.Prelude.{Result, Err}
 use mathlib.Core.Path.{◌≡◌, refl, sym, ap, ◌∙◌}
 use mathlib.Core.Bool.{true, false}
 use mathlib.Core.List.{List, [], ◌∷◌, ◌++◌}
-use Prim.Native.Nat.{ℕ, zero, suc, ◌+◌, ◌*◌, ◌/◌, ◌^◌, ◌≤◌, ◌<◌}
+use Prim.Native.Nat.{ℕ, zero, suc, ◌+◌, ◌*◌, ◌^◌, ◌≤◌, ◌<◌}
 use native.Mathlib.Numerals.{add-one, add-two}
 use native.Mathlib.Omega.{arith}
 use borrow.Author.Tests.{le-leb, lt-leb}
@@ -25,21 +26,17 @@ use Rattle.outline.proofs.ShownPosts.{posts_front}
 use Rattle.outline.specs.Stores.{form_in, grade_in, length_in, path_in, posts_of, posts_in}
 use Rattle.replies.specs.Replies.{first_row, draw_grade_row, index_row, new_row}
 use Rattle.heading.specs.StoreRows.{store_rows}
-use Rattle.editing.specs.Replacing.{replaced_of, replace_reply, replace_out, reply_of_replaced, Replaces}
-use Rattle.replies.specs.Refusals.{refusal_of}
-use Rattle.keeping.specs.Keeping.{write_rows, reply_of_kept}
-use Rattle.replies.specs.Checks.{Fits}
+use Rattle.editing.specs.Replacing.{replaced_of, replace_reply, replace_out, Replaces}
+use Rattle.replies.specs.Refusals.{reply_of}
+use Rattle.keeping.specs.Keeping.{write_rows}
 use Rattle.keeping.specs.Rewriting.{Rewrites}
 use Rattle.checking.specs.Known.{Known}
 use Rattle.checking.proofs.KnownStore.{known_count, known_long}
 use Rattle.replies.specs.declared.Refusal.TheVariants.{Grade, NoVertex, Outside}
-use Rattle.keeping.specs.declared.Kept.{Kept}
-use Rattle.editing.specs.declared.Replaced.{Replaced}
-use Rattle.editing.specs.declared.Replaced.TheVariants as replaced
+use Rattle.replies.specs.declared.Refusal.{Refusal}
 use Rattle.outline.proofs.ReadBack.{numbers_count}
 use Rattle.editing.proofs.Changed.{within_changed}
 use Rattle.replies.proofs.Rows.{rows_append, first_holds, first_skip, grade_drawn, grade_retired, refused_written}
-use Rattle.replies.proofs.PathChecks.{within_fits}
 use Rattle.heading.proofs.Shown.{path_back}
 use Rattle.outline.proofs.Parts.{radius_size}
 use Rattle.outline.specs.declared.Edition.{Edition}
@@ -84,16 +81,6 @@ unfolding spread over vertex_numbers
 vertex_put {at = at} v h ex ey er p q s =
     record { out = cc (add-one at, add-two at, narrowed h.x ex, narrowed h.y ey, narrowed (radius_size h.radius) er); pos = refl }
 
--- ---- within the limits
-
--- the numbers of a path within the limits pass the rows of a path, from grade 2 on
-numbers_fit : (g : ℕ) (vs : List Vertex) (p : List ℤ) {n : ℕ} → p ≡ path_numbers vs → n ≡ length vs → 2 ≤ g → Within g vs → Fits p g n
-numbers_fit g vs p {n} e en low h =
-    let q : path_of p ≡ vs = ap path_of e ∙ path_back vs in
-    let l : length p ≡ 3 * length vs = ap length e ∙ numbers_count vs in
-    let c : length p / 3 ≡ n = omega arith in
-    rw c at (within_fits p {g = g} (omega arith) low (rw q h))
-
 -- ---- the rows of a change
 
 module _ {s : List ℕ} {p : List ℤ} {d : Edition} {g n m : ℕ} (h : Known s p d g n m) where
@@ -105,8 +92,8 @@ module _ {s : List ℕ} {p : List ℤ} {d : Edition} {g n m : ℕ} (h : Known s 
   pub known_front : front_bytes (Stroke d) n ≤ length s
   known_front = omega (arith, known_long h, h.long)
 
-  pub change_retired : (k : ℕ) (v : Vertex) → g < 2 → Replaces s k v (replaced.Refused (Grade g)) s
-  unfolding reply_of_replaced refusal_of replace_reply replace_out draw_grade_row
+  pub change_retired : (k : ℕ) (v : Vertex) → g < 2 → Replaces s k v (Err (Grade g)) s
+  unfolding replace_reply replace_out draw_grade_row
   change_retired k v l =
       let e : (draw_grade_row (grade_in s)).0 ≡ true = rw h.grade at (grade_retired l) in
       let r : (3, g) ≡ replace_reply s k v =
@@ -121,8 +108,8 @@ module _ {s : List ℕ} {p : List ℤ} {d : Edition} {g n m : ℕ} (h : Known s 
     unfolding replace_reply
     after = rows_append (store_rows s) _ _ ∙ h.passed _ ∙ h.other _ _ ∙ first_skip (draw_grade_row (grade_in s) ∷ []) _ _ (drawn, tt) ∙ rw (known_count h)
 
-    pub change_none : n ≤ k → Replaces s k v (replaced.Refused (NoVertex k)) s
-    unfolding reply_of_replaced refusal_of replace_out first_row index_row
+    pub change_none : n ≤ k → Replaces s k v (Err (NoVertex k)) s
+    unfolding replace_out first_row index_row
     change_none l =
         let r : (9, k) ≡ replace_reply s k v = sym (after ∙ rw (le-leb n k l, first_row)) in
         record { reply = r; store = refused_written (NoVertex k) _ s r }
@@ -136,19 +123,22 @@ module _ {s : List ℕ} {p : List ℤ} {d : Edition} {g n m : ℕ} (h : Known s 
         pub changed_path : path_of (take e p₁) ≡ set (path_in s) k v
         changed_path = ap path_of changed ∙ path_back (set (path_in s) k v)
 
-        pub changed_fits : allowed_of v ≡ true → Fits (take e p₁) g n
-        changed_fits a = numbers_fit g (set (path_in s) k v) (take e p₁) changed (sym (known_count h) ∙ sym (length-set (path_in s) k v)) low (within_changed g (path_in s) k v (rw h.grade h.within) a)
+        pub changed_count : n ≡ length (path_of (take e p₁))
+        changed_count = sym (known_count h) ∙ sym (length-set (path_in s) k v) ∙ ap length (sym changed_path)
 
-      pub change_outside : allowed_of v ≡ false → Replaces s k v (replaced.Refused (Outside k)) s
-      unfolding reply_of_replaced refusal_of replace_out first_row index_row new_row
+        pub changed_within : allowed_of v ≡ true → Within g (path_of (take e p₁))
+        changed_within a = rw changed_path (within_changed g (path_in s) k v (rw h.grade h.within) a)
+
+      pub change_outside : allowed_of v ≡ false → Replaces s k v (Err (Outside k)) s
+      unfolding replace_out first_row index_row new_row
       change_outside a =
           let r : (4, k) ≡ replace_reply s k v = sym (after ∙ rw (lt-leb n k l, first_row, a, first_row)) in
           record { reply = r; store = refused_written (Outside k) _ s r }
 
-      pub change_done : (qs : List ℕ) (us : List Vertex) {old : ℕ} {a : Kept} {r : Replaced} {s' : List ℕ} → allowed_of v ≡ true → qs ≡ posts_in s → us ≡ set (path_in s) k v → old ≡ length_of (Stroke d) n m
-          → Rewrites s (Stroke d) g qs us old a s' → reply_of_replaced r ≡ reply_of_kept a → Replaces s k v r s'
+      pub change_done : (qs : List ℕ) (us : List Vertex) {old : ℕ} {r : Result ℕ Refusal} {s' : List ℕ} → allowed_of v ≡ true → qs ≡ posts_in s → us ≡ set (path_in s) k v → old ≡ length_of (Stroke d) n m
+          → Rewrites s (Stroke d) g qs us old r s' → Replaces s k v r s'
       unfolding replaced_of replace_out first_row index_row new_row
-      change_done qs us {a = a} {s' = s'} al eq eu eo w e =
-          let w' : Rewrites s (form_in s) (grade_in s) (posts_in s) (set (path_in s) k v) (length_in s) a s' = rw h.form (rw (h.grade, eq, eu, eo ∙ known_long h) at w) in
-          let f : reply_of_kept a ≡ replace_reply s k v = w'.reply ∙ sym (after ∙ rw (lt-leb n k l, first_row, al, first_row)) in
-          record { reply = e ∙ f; store = rw f at w'.bytes }
+      change_done qs us {r = r} {s' = s'} al eq eu eo w =
+          let w' : Rewrites s (form_in s) (grade_in s) (posts_in s) (set (path_in s) k v) (length_in s) r s' = rw h.form (rw (h.grade, eq, eu, eo ∙ known_long h) at w) in
+          let f : reply_of r ≡ replace_reply s k v = w'.reply ∙ sym (after ∙ rw (lt-leb n k l, first_row, al, first_row)) in
+          record { reply = f; store = rw f at w'.bytes }

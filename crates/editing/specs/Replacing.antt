@@ -1,6 +1,6 @@
 -- Document 01, "Replies, tested in this order": replace, its answer, its promise, and how far a replacement reaches. Its rows 12, 3 and 18 are
 -- document 02's, requests 3, 13 and 9, and its editions and posts request 11.
-use Rattle.std.specs.Prelude.{true, List, ◌∷◌, ◌++◌, ℕ, ◌+◌, ◌-◌, ◌≤◌, ◌<◌, length, drop, set, replicate, take, ◌≡◌}
+use Rattle.std.specs.Prelude.{true, List, ◌∷◌, ◌++◌, ℕ, ◌+◌, ◌-◌, ◌≤◌, ◌<◌, length, drop, set, replicate, take, ◌≡◌, Result}
 use Rattle.contacts.specs.Limits.{allowed_of}
 use Rattle.contacts.specs.declared.Vertex.{Vertex}
 use Rattle.paths.specs.Paths.{edges_of}
@@ -11,10 +11,9 @@ use Rattle.outline.specs.declared.Edition.{Edition}
 use Rattle.outline.specs.declared.Form.TheVariants.{Stroke}
 use Rattle.replies.specs.Replies.{Reply, first_row, draw_grade_row, index_row, new_row, written}
 use Rattle.keeping.specs.Keeping.{write_rows}
-use Rattle.editing.specs.declared.Replaced.{Replaced}
-use Rattle.editing.specs.declared.Replaced.TheVariants as replaced
 use Rattle.locality.specs.Local.{reach_of}
-use Rattle.replies.specs.Refusals.{refusal_of}
+use Rattle.replies.specs.Refusals.{reply_of}
+use Rattle.replies.specs.declared.Refusal.{Refusal}
 use Rattle.heading.specs.StoreRows.{store_rows}
 use Rattle.checking.specs.OtherKind.{other_kind_row}
 
@@ -35,12 +34,8 @@ replace_out s k v =
     let made = replaced_of s k v in
     written (replace_reply s k v) (made ++ replicate (length_in s - length made) 0) s
 
-unfoldable pub reply_of_replaced : Replaced → Reply
-reply_of_replaced (replaced.Bytes n) = (0, n)
-reply_of_replaced (replaced.Refused r) = refusal_of r
-
-pub record Replaces (store₀ : List ℕ) (index : ℕ) (v : Vertex) (answer : Replaced) (store₁ : List ℕ) : Type 0 where
-  pub reply : reply_of_replaced answer ≡ replace_reply store₀ index v
+pub record Replaces (store₀ : List ℕ) (index : ℕ) (v : Vertex) (answer : Result ℕ Refusal) (store₁ : List ℕ) : Type 0 where
+  pub reply : reply_of answer ≡ replace_reply store₀ index v
   pub store : store₁ ≡ replace_out store₀ index v
 
 -- An outline of grade 2 or above, whatever bytes stand after it, takes any vertex within the limits in place of one of its own, where at least one edge is
@@ -60,7 +55,7 @@ ReplacedIsSound = (s : List ℕ) (k : ℕ) (v : Vertex) → (replace_reply s k v
     × (posts_in (replace_out s k v) ≡ posts_in s)
 
 abbrev pub OneReplacing : Type 0
-OneReplacing = (s : List ℕ) (k : ℕ) (v : Vertex) (r q : Replaced) (o p : List ℕ) → Replaces s k v r o → Replaces s k v q p → (r ≡ q) × (o ≡ p)
+OneReplacing = (s : List ℕ) (k : ℕ) (v : Vertex) (r q : Result ℕ Refusal) (o p : List ℕ) → Replaces s k v r o → Replaces s k v q p → (r ≡ q) × (o ≡ p)
 
 -- Demand 3 of a store: the bodies before k stay as they were, and so do those after j, the first vertex from k + 2 on that a drawn or broken step
 -- reaches, with the closing one, unless j is the last vertex.

@@ -5,24 +5,20 @@ ghost use Rattle.runs.specs.Runs.{Runs, put};
 ghost use Rattle.contacts.specs.Bounds.{Inside};
 ghost use Rattle.paths.specs.Paths.{vertex_numbers};
 ghost use Rattle.own_room.specs.OwnRoom.{step_numbers};
-ghost use Rattle.keeping.specs.Keeping.{reply_of_kept};
 ghost use Rattle.checking.specs.StoreRoom.{store_path, store_posts, store_own};
-ghost use Rattle.editing.specs.Replacing.{reply_of_replaced, Replaces};
-ghost use Rattle.checking.specs.Known.{Known, Passed};
+ghost use Rattle.editing.specs.Replacing.{Replaces};
+ghost use Rattle.checking.specs.Known.{Known};
 
-use crate::Replaced;
 use checking::check;
 use contacts::Vertex;
 use contacts::limits::allowed;
-use heading::{Checked, Header};
-use keeping::Kept;
-use keeping::rewriting::rewrite;
-use outline::layout::{KERB_KIND, whole_length};
+use heading::Header;
+use keeping::filling::Plan;
 use outline::posts::show_posts;
 use outline::{Edition, Form};
 use replies::Refusal;
 
-// A coordinate as it stands among a path's numbers.
+// A coordinate as it stands among a path's numbers. An `as` has to show at each place that the number fits; here it is shown once for the three.
 fn narrow(z: i64) -> i32
     requires { Size (2 ^ 28) z }
     ensures { result ≡ z }
@@ -44,97 +40,44 @@ fn put_vertex(path: &mut [i32], k: usize, v: Vertex)
     path[at + 2] = radius;
 }
 
-// What writing came to, as replace answers it.
-fn replaced(k: Kept) -> Replaced
-    ensures { reply_of_replaced result ≡ reply_of_kept k }
-{
-    match k {
-        Kept::Bytes(n) => Replaced::Bytes(n),
-        Kept::Refused(r) => Replaced::Refused(r),
-    }
-}
-
 // A stroke's store that passed its rows and whose grade is drawn at, its vertices at the front of `path`: its edition stays, and every post.
-pub fn change(
-    store: &mut [u8],
-    edition: Edition,
-    grade: u32,
-    n: usize,
-    m: usize,
-    index: usize,
-    v: Vertex,
-    path: &mut [i32],
-    posts: &mut [u32],
-    own: &mut [i32],
-) -> Replaced
-    requires { Known store.old path.old edition grade n m × (n ≤ length posts.old) × (step_numbers grade ≤ length own.old) × (2 ≤ grade) }
-    ensures { Replaces store.old index v result store.new }
-{
-    if n <= index {
-        return Replaced::Refused(Refusal::NoVertex(index));
-    }
-    if !allowed(v) {
-        return Replaced::Refused(Refusal::Outside(index));
-    }
-    put_vertex(path, index, v);
-    show_posts(store, edition, n, posts);
-    let numbers = 3 * n;
-    let old = whole_length(Form::Stroke(edition), n, m);
-    replaced(rewrite(
-        &path[0..numbers],
-        &posts[0..n],
-        n,
-        edition,
-        grade,
-        old,
-        own,
-        store,
-    ))
-}
-
-// A stroke's store that passed its rows, unless its grade is retired.
-fn change_drawn(
-    store: &mut [u8],
-    edition: Edition,
-    grade: u32,
-    n: usize,
-    m: usize,
-    index: usize,
-    v: Vertex,
-    path: &mut [i32],
-    posts: &mut [u32],
-    own: &mut [i32],
-) -> Replaced
-    requires { Known store.old path.old edition grade n m × (n ≤ length posts.old) × (step_numbers grade ≤ length own.old) }
-    ensures { Replaces store.old index v result store.new }
-{
-    if grade < 2 {
-        return Replaced::Refused(Refusal::Grade(grade));
-    }
-    change(store, edition, grade, n, m, index, v, path, posts, own)
-}
-
-// A store that passed its rows, if it is of a stroke.
-fn change_stroke(
+// `path`, `posts` and `own` are room; how much of it a store asks for is by the store, so a struct of the three could not say that they are enough.
+fn change(
     store: &mut [u8],
     h: Header,
+    edition: Edition,
     index: usize,
     v: Vertex,
     path: &mut [i32],
     posts: &mut [u32],
     own: &mut [i32],
-) -> Replaced
-    requires { Passed store.old path.old h × (store_posts store.old ≤ length posts.old) × (store_own store.old ≤ length own.old) }
+) -> Result<usize, Refusal>
+    requires known { Known store.old path.old edition h.grade h.n h.m }
+    requires drawn { 2 ≤ h.grade }
+    requires room { (h.n ≤ length posts.old) × (step_numbers h.grade ≤ length own.old) }
     ensures { Replaces store.old index v result store.new }
 {
-    let form = h.form;
-    match form {
-        Form::Kerb(_) => Replaced::Refused(Refusal::OtherKind(KERB_KIND)),
-        Form::Stroke(e) => change_drawn(store, e, h.grade, h.n, h.m, index, v, path, posts, own),
+    if h.n <= index {
+        return Err(Refusal::NoVertex(index));
     }
+    if !allowed(v) {
+        return Err(Refusal::Outside(index));
+    }
+    put_vertex(path, index, v);
+    show_posts(store, edition, h.n, posts);
+    let numbers = 3 * h.n;
+    let old = Form::Stroke(edition).whole_length(h.n, h.m);
+    let plan = Plan {
+        path: &path[0..numbers],
+        posts: &posts[0..h.n],
+        n: h.n,
+        edition,
+        grade: h.grade,
+    };
+    plan.rewrite(old, own, store)
 }
 
-// replace with numbers of the caller's: for the store's path, for its posts, and for a step's edges.
+// replace with numbers of the caller's: for the store's path, for its posts, and for a step's edges. A retired grade isn't drawn at.
 pub fn replace_with(
     store: &mut [u8],
     index: usize,
@@ -142,13 +85,14 @@ pub fn replace_with(
     path: &mut [i32],
     posts: &mut [u32],
     own: &mut [i32],
-) -> Replaced
+) -> Result<usize, Refusal>
     requires { (store_path store.old ≤ length path.old) × (store_posts store.old ≤ length posts.old) × (store_own store.old ≤ length own.old) }
     ensures { Replaces store.old index v result store.new }
 {
-    let checked = check(store, path, own);
-    match checked {
-        Checked::Refused(r) => Replaced::Refused(r),
-        Checked::Holds(h) => change_stroke(store, h, index, v, path, posts, own),
+    let header = check(store, path, own)?;
+    let edition = header.stroke_edition()?;
+    if header.grade < 2 {
+        return Err(Refusal::Grade(header.grade));
     }
+    change(store, header, edition, index, v, path, posts, own)
 }

@@ -234,8 +234,8 @@ pub record Bowing (t : Vector) (b : Bow) (l₀ : List ℤ) (a₀ k₀ : ℕ) (s�
   pub unit : UnitLong (heading_of s)
 
 module _ {t : Vector} {b : Bow} {l₀ : List ℤ} {a₀ k₀ : ℕ} {s₀ : Swing} where
-  pub bowing_start : UnitLong t → SoundBow b → s₀ ≡ swing_of t b.direction → Bowing t b l₀ a₀ k₀ s₀ l₀ a₀ k₀ s₀
-  bowing_start h k e = record { onward = onward_start; reach = swing_told h k.direction e; unit = swing_unit h k.direction e }
+  pub bowing_start : UnitLong t → SoundBow b → s₀ ≡ swing_of t b.direction → Bowing t b l₀ a₀ k₀ s₀ l₀ a₀ (k₀ - 0) s₀
+  bowing_start h k e = let o : k₀ - 0 ≡ k₀ = omega arith in rw o (record { onward = onward_start; reach = swing_told h k.direction e; unit = swing_unit h k.direction e })
 
   module _ {l : List ℤ} {a k : ℕ} {s : Swing} (w : Bowing t b l₀ a₀ k₀ s₀ l a k s) where
     -- room for what is left of it
@@ -258,15 +258,16 @@ module _ {t : Vector} {b : Bow} {l₀ : List ℤ} {a₀ k₀ : ℕ} {s₀ : Swin
     pub bowing_near : {d : Vector} {q : Point} → SoundBow b → d ≡ heading_of s → q ≡ scaled_of b.centre (bits b.radius) d → Near q
     bowing_near h e f = point_reach h.centre h.radius (bowing_unit e) f
 
-    pub bowing_step : {d : Vector} {q : Point} {s₁ : Swing} {l₁ l₂ : List ℤ} {n₁ n₂ : ℕ} → UnitLong t → SoundBow b → 0 < k → d ≡ heading_of s → q ≡ scaled_of b.centre (bits b.radius) d → s₁ ≡ swing_of t d
-        → Runs put point_numbers l a (q ∷ []) l₁ n₁ → Runs put point_numbers l₁ n₁ (q ∷ []) l₂ n₂ → Bowing t b l₀ a₀ k₀ s₀ l₂ n₂ (k - 1) s₁
-    bowing_step {d} u z h i j e f g =
+    pub bowing_step : {d : Vector} {q : Point} {s₁ : Swing} {l₁ l₂ : List ℤ} {n₁ n₂ : ℕ} → {j : ℕ} → UnitLong t → SoundBow b → k ≡ j + 1 → d ≡ heading_of s → q ≡ scaled_of b.centre (bits b.radius) d → s₁ ≡ swing_of t d
+        → Runs put point_numbers l a (q ∷ []) l₁ n₁ → Runs put point_numbers l₁ n₁ (q ∷ []) l₂ n₂ → Bowing t b l₀ a₀ k₀ s₀ l₂ n₂ j s₁
+    bowing_step {d} {j = n} u z h i j e f g =
         let v = bowing_unit i in
-        record {
-          onward = onward_step (onward_step (onward_as (rest_go t b.centre b.radius b.to k s h i (point_is b.centre d z.radius j) e) w.onward) f) g;
+        let o : n ≡ k - 1 = omega arith in
+        rw o (record {
+          onward = onward_step (onward_step (onward_as (rest_go t b.centre b.radius b.to k s (omega arith) i (point_is b.centre d z.radius j) e) w.onward) f) g;
           reach = swing_told u v e;
           unit = swing_unit u v e;
-        }
+        })
 
     pub bowing_done : {l' l₁ : List ℤ} {at n : ℕ} → k ≤ 0 → s₀ ≡ swing_of t b.direction → Runs put point_numbers l' at (b.from ∷ []) l₀ a₀ → Runs put point_numbers l a (b.to ∷ []) l₁ n
         → Runs put edge_numbers l' at (bow_edges k₀ t b.centre b.radius b.to b.direction b.from) l₁ n

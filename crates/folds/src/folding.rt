@@ -1,5 +1,5 @@
 // An arc folded into eleven numbers, where leaps count its rotations and every edge has length: so much less is held than its edges.
-ghost use Rattle.std.specs.Prelude.{◌≡◌, true, [], ◌∷◌, ◌+◌, ◌^◌, ◌≤◌, ◌<◌, set};
+ghost use Rattle.std.specs.Prelude.{◌≡◌, true, [], ◌∷◌, ◌+◌, ◌^◌, ◌≤◌, ◌<◌, set, IfSome};
 ghost use Rattle.whole.specs.Sizes.{Size};
 ghost use Rattle.runs.specs.Runs.{Runs, Room, put as put_of};
 ghost use Rattle.plane.specs.Vectors.{Near};
@@ -16,7 +16,7 @@ use crate::Bow;
 use leaps::counting::turned_on;
 use leaps::turns::turns;
 use plane::rotation::rotated;
-use plane::vectors::{cross, same};
+use plane::vectors::cross;
 use plane::{Point, Vector};
 use turning::Turning;
 use turning::edges::{narrow, put};
@@ -25,22 +25,22 @@ use turning::turn::{point_at, stops};
 // What an arc in own numbers starts with.
 pub const MARK: i32 = -2147483648;
 
-// How many rotations the arc has from p, in the direction d, or 0 where that is not known.
-fn turned(r: Turning, d: Vector, p: Point) -> usize
+// How many rotations the arc has from p, in the direction d, where that is known.
+fn turned(r: Turning, d: Vector, p: Point) -> Option<usize>
     requires { Turns r × UnitLong d × Near p }
-    ensures { Bends r d p result }
+    ensures { IfSome result (Bends r d p) }
 {
     let next = rotated(r.step, d);
     if stops(cross(d, r.toward), d, next, r.toward) {
-        return 0;
+        return None;
     }
-    if same(p, point_at(r.centre, r.radius, next)) {
-        return 0;
+    if p == point_at(r.centre, r.radius, next) {
+        return None;
     }
     turned_on(r, next)
 }
 
-// A direction's component as it stands in own numbers.
+// A direction's component as it stands in own numbers: as `narrow` but for the bound.
 fn short(z: i64) -> i32
     requires { Size (2 ^ 30) z }
     ensures { result ≡ z }
@@ -71,17 +71,13 @@ fn put_bow(out: &mut [i32], at: usize, b: Bow) -> usize
     requires { SoundBow b × (at + 11 < 2 ^ 64) }
     ensures { Runs put_of fold_numbers out.old at (Bent b ∷ []) out.new result }
 {
-    let d = b.direction;
-    let c = b.centre;
-    let p = b.from;
-    let q = b.to;
     put(out, at, MARK);
     put(out, at + 1, b.turns as i32);
-    put_direction(out, at + 2, d);
-    put_point(out, at + 4, c);
+    put_direction(out, at + 2, b.direction);
+    put_point(out, at + 4, b.centre);
     put(out, at + 6, narrow(b.radius));
-    put_point(out, at + 7, p);
-    put_point(out, at + 9, q);
+    put_point(out, at + 7, b.from);
+    put_point(out, at + 9, b.to);
     at + 11
 }
 
@@ -91,15 +87,13 @@ pub fn fold_counted(out: &mut [i32], at: usize, r: Turning, d: Vector, p: Point,
     requires room { Room edge_numbers at (turns_of 1536 r d p) }
     ensures { Lays r.step true out.old at (turns_of 1536 r d p) out.new result }
 {
-    let c = r.centre;
-    let q = r.to;
     let b = Bow {
         turns: n,
         direction: d,
-        centre: c,
+        centre: r.centre,
         radius: r.radius,
         from: p,
-        to: q,
+        to: r.to,
     };
     put_bow(out, at, b)
 }
@@ -110,9 +104,8 @@ pub fn fold(out: &mut [i32], at: usize, r: Turning, d: Vector, p: Point) -> usiz
     requires room { Room edge_numbers at (turns_of 1536 r d p) }
     ensures { Lays r.step true out.old at (turns_of 1536 r d p) out.new result }
 {
-    let n = turned(r, d, p);
-    if n < 2 {
-        return turns(out, at, r, d, p);
+    match turned(r, d, p) {
+        Some(n) if 2 <= n => fold_counted(out, at, r, d, p, n),
+        _ => turns(out, at, r, d, p),
     }
-    fold_counted(out, at, r, d, p, n)
 }

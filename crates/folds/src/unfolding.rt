@@ -15,7 +15,7 @@ use half_turn::finest::{axial, finest};
 use half_turn::half_bow;
 use plane::rotation::{Swing, heading, landed, swung};
 use plane::{Point, Vector};
-use turning::edges::{narrow, number_at, place, store};
+use turning::edges::{narrow, number_at, store};
 use turning::{Edge, Turning};
 
 // The two numbers at j as a point.
@@ -45,19 +45,13 @@ fn bow_in(own: &[i32], j: usize) -> Bow
     requires { StandsBent own.now j }
     ensures { FindsBent own.now j result }
 {
-    let turns = own[j + 1] as usize;
-    let direction = direction_in(own, j + 2);
-    let centre = point_in(own, j + 4);
-    let radius = number_at(own, j + 6);
-    let from = point_in(own, j + 7);
-    let to = point_in(own, j + 9);
     Bow {
-        turns: turns,
-        direction: direction,
-        centre: centre,
-        radius: radius,
-        from: from,
-        to: to,
+        turns: own[j + 1] as usize,
+        direction: direction_in(own, j + 2),
+        centre: point_in(own, j + 4),
+        radius: number_at(own, j + 6),
+        from: point_in(own, j + 7),
+        to: point_in(own, j + 9),
     }
 }
 
@@ -67,11 +61,13 @@ fn fold_at(own: &[i32], j: usize) -> Fold
     ensures { Finds own.now j result }
 {
     if own[j] == MARK {
-        return Fold::Bent(bow_in(own, j));
+        Fold::Bent(bow_in(own, j))
+    } else {
+        Fold::Straight(Edge {
+            a: point_in(own, j),
+            b: point_in(own, j + 2),
+        })
     }
-    let a = point_in(own, j);
-    let b = point_in(own, j + 2);
-    Fold::Straight(Edge { a: a, b: b })
 }
 
 // How many numbers a fold stands in.
@@ -102,6 +98,7 @@ pub fn unfolded(own: &[i32], m: usize) -> usize
 {
     let mut j: usize = 0;
     let mut n: usize = 0;
+    // no range to go over: each fold has a width of its own
     while j < m {
         let f = fold_at(own, j);
         n += size(f);
@@ -115,8 +112,8 @@ fn place_point(out: &mut [i32], at: usize, p: Point) -> usize
     requires { Near p × (at + 1 < length out.old) }
     ensures { Runs put point_numbers out.old at (p ∷ []) out.new result }
 {
-    place(out, at, narrow(p.x));
-    place(out, at + 1, narrow(p.y));
+    out[at] = narrow(p.x);
+    out[at + 1] = narrow(p.y);
     at + 2
 }
 
@@ -139,14 +136,12 @@ fn bow(out: &mut [i32], at: usize, t: Vector, b: Bow) -> usize
 {
     let mut s = swung(t, b.direction);
     let mut n = place_point(out, at, b.from);
-    let mut left = b.turns;
-    while 0 < left {
+    for _ in 0..b.turns {
         let d = heading(s);
         let q = point_of(b.centre, b.radius, s, d);
         n = place_point(out, n, q);
         n = place_point(out, n, q);
         s = swung(t, d);
-        left -= 1;
     }
     place_point(out, n, b.to)
 }
@@ -158,20 +153,18 @@ fn bent(out: &mut [i32], at: usize, t: Vector, b: Bow) -> usize
 {
     let d = b.direction;
     if axial(d) && finest(t) && b.turns <= 402 {
-        let c = b.centre;
-        let p = b.from;
-        let q = b.to;
         // the count says where it stops: no direction of its end is needed
         let r = Turning {
             step: t,
-            centre: c,
+            centre: b.centre,
             radius: b.radius,
-            to: q,
+            to: b.to,
             toward: d,
         };
-        return half_bow(out, at, b.turns, r, p, d.x < 0);
+        half_bow(out, at, b.turns, r, b.from, d.x < 0)
+    } else {
+        bow(out, at, t, b)
     }
-    bow(out, at, t, b)
 }
 
 // A fold's edges, all of them inside the room.
@@ -192,6 +185,7 @@ pub fn unfold(own: &[i32], m: usize, t: Vector, out: &mut [i32]) -> usize
 {
     let mut j: usize = 0;
     let mut n: usize = 0;
+    // no range to go over: each fold has a width of its own
     while j < m {
         let f = fold_at(own, j);
         n = unfold_one(out, n, t, f);

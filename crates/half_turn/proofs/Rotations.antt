@@ -17,26 +17,24 @@ use Rattle.turning.proofs.Rays.{same_is, both_true}
 use Rattle.turning.proofs.Mirrored.{minus, rotated_minus}
 use Rattle.leaps.specs.Leaps.{turned_of, Goes}
 use Rattle.leaps.proofs.Leaping.{many_add}
-use Rattle.half_turn.specs.Pairs.{axis_of, follows_of, pair_of, Tabled}
+use Rattle.half_turn.specs.Pairs.{axis_of, vector_of, follows_of, pair_of, Tabled}
 
 -- ---- the table's rule
 
-first_pair : (t d : Vector) (x y : ℤ) (xs ys : List ℤ) → follows_of t d (x ∷ xs) (y ∷ ys) ≡ true
-    → (record { x = x; y = y } ≡ rotated_of t d) × (follows_of t (record { x = x; y = y }) xs ys ≡ true)
+first_pair : (t d : Vector) (p : ℤ × ℤ) (ps : List (ℤ × ℤ)) → follows_of t d (p ∷ ps) ≡ true → (vector_of p ≡ rotated_of t d) × (follows_of t (vector_of p) ps ≡ true)
 unfolding follows_of
-first_pair t d x y xs ys e =
+first_pair t d p ps e =
     let h = both_true _ _ e in
     let k = both_true _ _ h.1 in
-    (λ i. record { x = same_is x (rotated_of t d).x h.0 i; y = same_is y (rotated_of t d).y k.0 i }, k.1)
+    (λ i. record { x = same_is p.0 (rotated_of t d).x h.0 i; y = same_is p.1 (rotated_of t d).y k.0 i }, k.1)
 
-follows_at : (t d : Vector) (xs ys : List ℤ) → follows_of t d xs ys ≡ true → (i : ℕ) → i < length xs → pair_of xs ys i ≡ turned_of (suc i) t d
+follows_at : (t d : Vector) (ps : List (ℤ × ℤ)) → follows_of t d ps ≡ true → (i : ℕ) → i < length ps → pair_of ps i ≡ turned_of (suc i) t d
 unfolding turned_of follows_of
-follows_at t d [] ys e i h = absurd (omega (arith, h))
-follows_at t d (x ∷ xs) [] e i h = absurd (true≢false (sym e))
-follows_at t d (x ∷ xs) (y ∷ ys) e zero h = (first_pair t d x y xs ys e).0
-follows_at t d (x ∷ xs) (y ∷ ys) e (suc i) h =
-    let f = first_pair t d x y xs ys e in
-    follows_at t (record { x = x; y = y }) xs ys f.1 i (omega (arith, h)) ∙ ap (turned_of (suc i) t) f.0
+follows_at t d [] e i h = absurd (omega (arith, h))
+follows_at t d (p ∷ ps) e zero h = (first_pair t d p ps e).0
+follows_at t d (p ∷ ps) e (suc i) h =
+    let f = first_pair t d p ps e in
+    follows_at t (vector_of p) ps f.1 i (omega (arith, h)) ∙ ap (turned_of (suc i) t) f.0
 
 -- the step of grade 8 in numbers
 abbrev pub eighth : Vector
@@ -46,11 +44,10 @@ pub step_eight : eighth ≡ step_of 8
 unfolding corrected_of root_in root_of square_of part_of component_of direction_of step_of
 step_eight = refl
 
-pub tabled : (xs ys : List ℤ) → length xs ≡ 402 → length ys ≡ 402 → follows_of eighth (axis_of false) xs ys ≡ true → Tabled xs ys
-tabled xs ys h k e = record {
-  x_long = h;
-  y_long = k;
-  rule = λ i l. follows_at eighth (axis_of false) xs ys e i (omega (arith, h, l)) ∙ (λ j. turned_of (sym (add-one i) j) (step_eight j) (axis_of false));
+pub tabled : (ps : List (ℤ × ℤ)) → length ps ≡ 402 → follows_of eighth (axis_of false) ps ≡ true → Tabled ps
+tabled ps h e = record {
+  long = h;
+  rule = λ i l. follows_at eighth (axis_of false) ps e i (omega (arith, h, l)) ∙ (λ j. turned_of (sym (add-one i) j) (step_eight j) (axis_of false));
 }
 
 -- ---- by half a turn

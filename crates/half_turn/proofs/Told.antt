@@ -7,14 +7,13 @@ use native.Mathlib.Omega.{arith}
 use borrow.Author.Tests.{eqb-true}
 use lib.Dec.{eqb}
 use lib.IntN.{ℤ, pos, neg_ℤ, ◌-ℤ◌}
-use lib.ListN.{get_or}
 use lib.Signed.{mag, lt_z}
-use mir.Syntax.{w64}
+use mir.Syntax.{w32, w64}
 use mir.Val.{SFits, to_z, of_z}
 use mir.Facts.{to_z-of_z}
 use Rattle.whole.specs.Sizes.{Size}
+use Rattle.whole.proofs.Sizes.{size_fits}
 use Rattle.whole.proofs.Order.{minus_is, abs_minus}
-use Rattle.plane.specs.Vectors.{Short}
 use Rattle.plane.specs.Directions.{UnitLong, step_of}
 use Rattle.plane.proofs.Products.{bits, back, short_fits}
 use Rattle.plane.proofs.Directions.{unit_short, step_unit}
@@ -35,34 +34,22 @@ pair_unit n back e = rw e (many_unit n (step_of 8) (axis_of back) (step_unit 8 r
 pub pair_step : {v t : Vector} (n : ℕ) (a : Vector) → t ≡ step_of 8 → v ≡ turned_of n (step_of 8) a → v ≡ turned_of n t a
 pair_step n a e f = f ∙ ap (λ t. turned_of n t a) (sym e)
 
-module _ {xs ys : List ℤ} {i : ℕ} {x y : ℤ} (h : Tabled xs ys) (k : i < 402) (e : x ≡ get_or xs i (pos 0)) (f : y ≡ get_or ys i (pos 0)) where
-  pair_short : Short (pair_of xs ys i)
-  pair_short = unit_short (pair_unit (i + 1) false (h.rule i k))
+-- a component read from 32 bits, and 0 less it
+read_back : {x : ℤ} → Size (2 ^ 30) x → bits (to_z w32 (of_z w32 x)) ≡ x
+read_back {x} h = rw (to_z-of_z {w = w32} {z = x} (size_fits (2 ^ 30) w32 x h tt)) (back (short_fits h))
 
-  pub short_x : Size (2 ^ 30) x
-  short_x = rw e pair_short.x
+minus_fits : {x : ℤ} → Size (2 ^ 30) x → SFits w64 (pos 0 -ℤ x)
+minus_fits {x} h = short_fits (record { size = omega (arith, abs_minus x, h.size) })
 
-  pub short_y : Size (2 ^ 30) y
-  short_y = rw f pair_short.y
+minus_back : {x : ℤ} → Size (2 ^ 30) x → bits (pos 0 -ℤ bits (to_z w32 (of_z w32 x))) ≡ neg_ℤ x
+minus_back {x} h = rw (read_back h) (back (minus_fits h) ∙ minus_is x)
 
-  pub pair_east : {b : Bool} → b ≡ false → record { x = bits x; y = bits y } ≡ turned_of (i + 1) (step_of 8) (axis_of b)
-  pair_east g =
-      (λ j. record { x = (back (short_fits short_x) ∙ e) j; y = (back (short_fits short_y) ∙ f) j })
-      ∙ h.rule i k
-      ∙ ap (λ (b : Bool). turned_of (i + 1) (step_of 8) (axis_of b)) (sym g)
-
--- 0 less a component
-pub minus_fits : {x : ℤ} → Size (2 ^ 30) x → SFits w64 (pos 0 -ℤ bits x)
-minus_fits {x} h = short_fits (record { size = rw (back (short_fits h)) (omega (arith, abs_minus x, h.size)) })
-
-minus_back : {x : ℤ} → Size (2 ^ 30) x → bits (pos 0 -ℤ bits x) ≡ neg_ℤ x
-minus_back {x} h = back (minus_fits h) ∙ ap (λ (z : ℤ). pos 0 -ℤ z) (back (short_fits h)) ∙ minus_is x
-
-pub pair_west : {xs ys : List ℤ} {i : ℕ} {x y : ℤ} {b : Bool} → Tabled xs ys → i < 402 → x ≡ get_or xs i (pos 0) → y ≡ get_or ys i (pos 0) → b ≡ true
-    → record { x = bits (pos 0 -ℤ bits x); y = bits (pos 0 -ℤ bits y) } ≡ turned_of (i + 1) (step_of 8) (axis_of b)
+pub pair_west : {ps : List (ℤ × ℤ)} {i : ℕ} {b : Bool} → Tabled ps → i < 402 → b ≡ true
+    → record { x = bits (pos 0 -ℤ bits (to_z w32 (of_z w32 (pair_of ps i).x))); y = bits (pos 0 -ℤ bits (to_z w32 (of_z w32 (pair_of ps i).y))) } ≡ turned_of (i + 1) (step_of 8) (axis_of b)
 unfolding axis_of
-pair_west {i = i} h k e f g =
-    (λ j. record { x = (minus_back (short_x h k e f) ∙ ap neg_ℤ e) j; y = (minus_back (short_y h k e f) ∙ ap neg_ℤ f) j })
+pair_west {ps} {i} h k g =
+    let s = unit_short (pair_unit (i + 1) false (h.rule i k)) in
+    (λ j. record { x = minus_back s.x j; y = minus_back s.y j })
     ∙ ap minus (h.rule i k)
     ∙ sym (many_minus (i + 1) (step_of 8) (axis_of false))
     ∙ ap (λ (b : Bool). turned_of (i + 1) (step_of 8) (axis_of b)) (sym g)

@@ -11,22 +11,23 @@ unfoldable pub axis_of : Bool → Vector
 axis_of false = record { x = pos (2 ^ 30); y = pos 0 }
 axis_of true = record { x = neg_ℤ (pos (2 ^ 30)); y = pos 0 }
 
+-- a pair as a direction
+abbrev pub vector_of : ℤ × ℤ → Vector
+vector_of p = record { x = p.0; y = p.1 }
+
 -- whether the first pair is d rotated by the step t, and each next the pair before it rotated
-unfoldable pub follows_of : Vector → Vector → List ℤ → List ℤ → Bool
-follows_of t d [] [] = true
-follows_of t d [] (y ∷ ys) = false
-follows_of t d (x ∷ xs) [] = false
-follows_of t d (x ∷ xs) (y ∷ ys) = same_number x (rotated_of t d).x && (same_number y (rotated_of t d).y && follows_of t (record { x = x; y = y }) xs ys)
+unfoldable pub follows_of : Vector → Vector → List (ℤ × ℤ) → Bool
+follows_of t d [] = true
+follows_of t d (p ∷ ps) = same_number p.0 (rotated_of t d).x && (same_number p.1 (rotated_of t d).y && follows_of t (vector_of p) ps)
 
 -- the pair at i
-abbrev pub pair_of : List ℤ → List ℤ → ℕ → Vector
-pair_of xs ys i = record { x = get_or xs i (pos 0); y = get_or ys i (pos 0) }
+abbrev pub pair_of : List (ℤ × ℤ) → ℕ → Vector
+pair_of ps i = vector_of (get_or ps i (pos 0, pos 0))
 
 -- 402 pairs, each the direction after so many rotations from due east: the next would be past due west
-pub record Tabled (xs ys : List ℤ) : Type 0 where
-  pub x_long : length xs ≡ 402
-  pub y_long : length ys ≡ 402
-  pub rule : (i : ℕ) → i < 402 → pair_of xs ys i ≡ turned_of (i + 1) (step_of 8) (axis_of false)
+pub record Tabled (ps : List (ℤ × ℤ)) : Type 0 where
+  pub long : length ps ≡ 402
+  pub rule : (i : ℕ) → i < 402 → pair_of ps i ≡ turned_of (i + 1) (step_of 8) (axis_of false)
 
 -- ---- tests, which tell something where they pass
 

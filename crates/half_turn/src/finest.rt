@@ -14,8 +14,5 @@ pub fn finest(t: Vector) -> bool
 pub fn axial(d: Vector) -> bool
     ensures { Axial d result }
 {
-    if d.y != 0 {
-        return false;
-    }
-    d.x == 0x4000_0000 || d.x == -0x4000_0000
+    d.y == 0 && (d.x == 0x4000_0000 || d.x == -0x4000_0000)
 }

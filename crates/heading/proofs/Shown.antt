@@ -4,7 +4,7 @@ use mathlib.Core.Path.{◌≡◌, refl, sym, ap, ◌∙◌}
 use mathlib.Core.Bool.{Bool, true, false, ◌&&◌}
 use mathlib.Core.List.{List, [], ◌∷◌, ◌++◌}
 use Prim.Native.Nat.{ℕ, zero, suc, ◌+◌, ◌-◌, ◌*◌, ◌^◌, ◌≤◌, ◌<◌}
-use native.Mathlib.Nat.{add-zero, sub-zero}
+use native.Mathlib.Nat.{add-zero}
 use native.Mathlib.Numerals.{add-one, add-two}
 use native.Mathlib.Omega.{arith}
 use borrow.Author.Tests.{ltb-false, lt-ltb, lt-leb}
@@ -18,7 +18,7 @@ use mir.Val.{to_z, of_z}
 use mir.Facts.{to_z-of_z}
 use Rattle.runs.specs.Runs.{spread, over, Runs, put}
 use Rattle.runs.proofs.Laws.{runs_none, runs_to}
-use Rattle.runs.proofs.Onward.{Onward, onward_start, onward_step, onward_as, onward_done}
+use Rattle.runs.proofs.Onward.{Onward, onward_step, onward_as, onward_done}
 use Rattle.runs.proofs.Written.{written_whole}
 use Rattle.contacts.specs.Limits.{allowed_of, first_outside}
 use Rattle.paths.specs.Paths.{path_of, vertex_numbers, path_numbers}
@@ -26,14 +26,14 @@ use Rattle.contacts.specs.declared.Vertex.{Vertex}
 use Rattle.contacts.proofs.Allowed.{inside_of_lem, inside_first}
 use Rattle.kerb.specs.declared.Style.{Style}
 use Rattle.kerb_paths.specs.Points.{kerb_path}
-use Rattle.outline.specs.Layout.{stroke_words, stroke_bytes, header_words, entry_words, entry_at, front_bytes}
+use Rattle.outline.specs.Layout.{stroke_words, header_words, entry_words, entry_at}
 use Rattle.outline.proofs.FormLengths.{entry_more}
 use Rattle.outline.specs.declared.Edition.{Edition}
 use Rattle.outline.specs.declared.Form.{Form}
 use Rattle.outline.specs.declared.Form.TheVariants.{Stroke, Kerb}
 use Rattle.words.specs.Words.{number_of, words_in, word_at}
 use Rattle.outline.specs.Stores.{form_in, count_in, radius_in, entries_in, path_in}
-use Rattle.heading.specs.Shows.{point_numbers, lent_numbers, lent_width, shown_radius, shown_in, shown_path, shown_at, PointShows, PointsShow}
+use Rattle.heading.specs.Shows.{point_numbers, shown_radius, shown_in, shown_path, shown_at, PointShows, PointsShow}
 
 -- ---- numbers stored: x, y and r are what the code has for them, and u, v and w for their words
 
@@ -70,11 +70,6 @@ shown_next (Kerb y) s n k h =
     let next : entry_at (Kerb y) k + entry_words (Kerb y) ≡ entry_at (Kerb y) (k + 1) = omega arith in
     rw a (simp (get_or-drop, drop-drop, add-zero, next))
 
-pub shown_start : (e : Edition) (s : List ℕ) (n : ℕ) → shown_in (Stroke e) n (drop 5 (words_in s)) ≡ shown_in (Stroke e) (n - 0) (drop (entry_at (Stroke e) 0) (words_in s))
-shown_start e s n =
-    let z : entry_at (Stroke e) 0 ≡ 5 = omega arith in
-    λ i. shown_in (Stroke e) (sym (sub-zero n) i) (drop (sym z i) (words_in s))
-
 pub shown_end : (f : Form) (s : List ℕ) (n k : ℕ) → n ≤ k → shown_in f (n - k) (drop (entry_at f k) (words_in s)) ≡ []
 unfolding shown_in
 shown_end f s n k h = let a : n - k ≡ 0 = omega arith in rw a
@@ -84,31 +79,12 @@ shown_end f s n k h = let a : n - k ≡ 0 = omega arith in rw a
 pub record PointsOn (s : List ℕ) (n : ℕ) (l₀ l : List ℤ) (k : ℕ) : Type 0 where
   pub each : (y : Style) → Onward put point_numbers l₀ 0 (shown_in (Kerb y) n (drop 8 (words_in s))) l (2 * k) (shown_in (Kerb y) (n - k) (drop (8 + 2 * k) (words_in s)))
 
-pub points_start : (s : List ℕ) (n : ℕ) (l : List ℤ) → PointsOn s n l l 0
-points_start s n l = record { each = λ y. onward_as (ap (λ (k : ℕ). shown_in (Kerb y) k (drop 8 (words_in s))) (sym (sub-zero n))) onward_start }
-
 module _ {s : List ℕ} {n : ℕ} {l₀ l : List ℤ} {k : ℕ} (p : PointsOn s n l₀ l k) where
   pub points_on : {l₁ : List ℤ} → k < n → PointShows s k l l₁ → PointsOn s n l₀ l₁ (k + 1)
   points_on h q = record { each = λ y. onward_step (onward_as (shown_next (Kerb y) s n k h) (p.each y)) (runs_to (omega arith) (q.each y)) }
 
   pub points_done : n ≤ k → k ≤ n → PointsShow s n l₀ l
   points_done h m = record { each = λ y. onward_done (onward_as (shown_end (Kerb y) s n k h) (p.each y)) (runs_to (omega (arith, h, m)) runs_none) }
-
--- by the form
-module _ {form : Form} {l₀ l₁ : List ℤ} where
-  pub shows_stroke : (s : List ℕ) (n : ℕ) {e : Edition} → form ≡ Stroke e → Runs put vertex_numbers l₀ 0 (shown_in (Stroke e) n (drop 5 (words_in s))) l₁ (3 * n)
-      → Runs put (lent_numbers form) l₀ 0 (shown_in form n (drop (header_words form) (words_in s))) l₁ (lent_width form * n)
-  shows_stroke s n e p = rw e p
-
-  pub shows_kerb : (s : List ℕ) {n : ℕ} {y : Style} → form ≡ Kerb y → PointsShow s n l₀ l₁ → Runs put (lent_numbers form) l₀ 0 (shown_in form n (drop (header_words form) (words_in s))) l₁ (lent_width form * n)
-  shows_kerb s {y} e p = rw e (p.each y)
-
-module _ (form : Form) (n i j : ℕ) (h : (front_bytes form n ≤ i) × (lent_width form * n ≤ j)) where
-  pub room_stroke : {e : Edition} → form ≡ Stroke e → (24 + stroke_bytes e * n ≤ i) × (3 * n ≤ j)
-  room_stroke e = rw e at h
-
-  pub room_kerb : {y : Style} → form ≡ Kerb y → (44 + 8 * n ≤ i) × (2 * n ≤ j)
-  room_kerb e = rw e at h
 
 -- ---- the limits
 

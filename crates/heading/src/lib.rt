@@ -1,7 +1,10 @@
 // A store's header: its rows, and the vertices after it as numbers.
 #![tactic(auto)]
 
-use outline::Form;
+ghost use Rattle.heading.specs.Headers.{StrokeAlone};
+
+use outline::layout::KERB_KIND;
+use outline::{Edition, Form};
 use replies::Refusal;
 
 pub mod heads;
@@ -16,9 +19,14 @@ pub struct Header {
     pub m: usize,
 }
 
-// What the rows of a store came to: its header, or why it is refused.
-#[derive(Clone, Copy)]
-pub enum Checked {
-    Holds(Header),
-    Refused(Refusal),
+impl Header {
+    // The edition, for a call that takes strokes alone.
+    pub fn stroke_edition(self) -> Result<Edition, Refusal>
+        ensures { StrokeAlone self.form result }
+    {
+        match self.form {
+            Form::Stroke(edition) => Ok(edition),
+            Form::Kerb(_) => Err(Refusal::OtherKind(KERB_KIND)),
+        }
+    }
 }

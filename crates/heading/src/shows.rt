@@ -7,7 +7,7 @@ ghost use Rattle.outline.specs.declared.Form.TheVariants.{Stroke};
 ghost use Rattle.words.specs.Words.{words_in};
 ghost use Rattle.heading.specs.Shows.{lent_numbers, lent_width, shown_in, shown_at, PointShows, PointsShow};
 
-use outline::layout::{HEADER_WORDS, KERB_ENTRY_WORDS, KERB_HEADER_WORDS, entry_words};
+use outline::layout::{HEADER_WORDS, KERB_ENTRY_WORDS, KERB_HEADER_WORDS};
 use outline::{Edition, Form};
 use words::{signed, word_at};
 
@@ -26,7 +26,7 @@ fn show_vertex(s: &[u8], edition: Edition, k: usize, out: &mut [i32])
     requires { (20 + (stroke_bytes edition * k + stroke_bytes edition) ≤ length s.now) × (3 * k + 3 ≤ length out.old) }
     ensures { Runs put vertex_numbers out.old (3 * k) (shown_at (Stroke edition) s.now k ∷ []) out.new (3 * k + 3) }
 {
-    let wide = entry_words(edition);
+    let wide = edition.entry_words();
     let entry = HEADER_WORDS + wide * k;
     let x = signed(word_at(s, entry));
     let y = signed(word_at(s, entry + 1));
@@ -50,15 +50,14 @@ fn show_point(s: &[u8], k: usize, out: &mut [i32])
     out[at + 1] = y;
 }
 
-// The vertices of a stroke's store, three numbers a vertex.
+// The vertices of a stroke's store, three numbers a vertex; n is what its header says. A kerb's points have two: one function over both would be
+// these two loops, since the promise is by the form.
 fn show_vertices(s: &[u8], edition: Edition, n: usize, out: &mut [i32])
     requires { (front_bytes (Stroke edition) n ≤ length s.now) × (3 * n ≤ length out.old) }
     ensures { Runs put vertex_numbers out.old 0 (shown_in (Stroke edition) n (drop (header_words (Stroke edition)) (words_in s.now))) out.new (3 * n) }
 {
-    let mut k: usize = 0;
-    while k < n {
+    for k in 0..n {
         show_vertex(s, edition, k, out);
-        k += 1;
     }
 }
 
@@ -67,10 +66,8 @@ fn show_points(s: &[u8], n: usize, out: &mut [i32])
     requires { (44 + 8 * n ≤ length s.now) × (2 * n ≤ length out.old) }
     ensures { PointsShow s.now n out.old out.new }
 {
-    let mut k: usize = 0;
-    while k < n {
+    for k in 0..n {
         show_point(s, k, out);
-        k += 1;
     }
 }
 

@@ -14,7 +14,7 @@ use arc::arcs::arc;
 use contacts::math::{centre, line};
 use contacts::{Section, Trend, Vertex};
 use folds::Pen;
-use plane::vectors::{cross, from_to, same};
+use plane::vectors::{cross, from_to};
 use plane::{Point, Vector};
 use turning::edges::edge;
 use turning::{Edge, Sweep};
@@ -42,8 +42,7 @@ fn start_choice(trend: Trend) -> Sweep
 {
     match trend {
         Trend::Decreasing => Sweep::Major,
-        Trend::Constant => Sweep::Minor,
-        Trend::Increasing => Sweep::Minor,
+        Trend::Constant | Trend::Increasing => Sweep::Minor,
     }
 }
 
@@ -52,8 +51,7 @@ fn end_choice(trend: Trend) -> Sweep
     ensures { result ≡ end_choice trend }
 {
     match trend {
-        Trend::Decreasing => Sweep::Minor,
-        Trend::Constant => Sweep::Minor,
+        Trend::Decreasing | Trend::Constant => Sweep::Minor,
         Trend::Increasing => Sweep::Major,
     }
 }
@@ -64,13 +62,19 @@ pub fn start_cap(out: &mut [i32], at: usize, pen: Pen, s: Section, cap: Cap) -> 
     requires room { Room edge_numbers at (start_cap pen.step s cap) }
     ensures { Lays pen.step pen.folds out.old at (start_cap pen.step s cap) out.new result }
 {
-    let p = s.left.a;
-    let q = s.right.a;
-    let trend = s.trend;
-    let a = s.a;
     match cap {
-        Cap::Butt => edge(out, at, p, q),
-        Cap::Round => arc_about(out, at, pen, a, p, q, start_choice(trend)),
+        Cap::Butt => edge(out, at, s.left.a, s.right.a),
+        Cap::Round => {
+            arc_about(
+                out,
+                at,
+                pen,
+                s.a,
+                s.left.a,
+                s.right.a,
+                start_choice(s.trend),
+            )
+        },
     }
 }
 
@@ -80,13 +84,9 @@ pub fn end_cap(out: &mut [i32], at: usize, pen: Pen, s: Section, cap: Cap) -> us
     requires room { Room edge_numbers at (end_cap pen.step s cap) }
     ensures { Lays pen.step pen.folds out.old at (end_cap pen.step s cap) out.new result }
 {
-    let p = s.right.b;
-    let q = s.left.b;
-    let trend = s.trend;
-    let b = s.b;
     match cap {
-        Cap::Butt => edge(out, at, p, q),
-        Cap::Round => arc_about(out, at, pen, b, p, q, end_choice(trend)),
+        Cap::Butt => edge(out, at, s.right.b, s.left.b),
+        Cap::Round => { arc_about(out, at, pen, s.b, s.right.b, s.left.b, end_choice(s.trend)) },
     }
 }
 
@@ -111,10 +111,7 @@ pub fn left_turns(prev: Section, next: Section) -> bool
     requires { Around prev × Around next }
     ensures { result ≡ left_turns prev next }
 {
-    if 0 < cross(along(next.left), along(prev.left)) {
-        return true;
-    }
-    bend(prev, next) < 0
+    0 < cross(along(next.left), along(prev.left)) || bend(prev, next) < 0
 }
 
 // Whether its right does.
@@ -122,10 +119,7 @@ pub fn right_turns(prev: Section, next: Section) -> bool
     requires { Around prev × Around next }
     ensures { result ≡ right_turns prev next }
 {
-    if 0 < cross(along(prev.right), along(next.right)) {
-        return true;
-    }
-    0 <= bend(prev, next)
+    0 < cross(along(prev.right), along(next.right)) || 0 <= bend(prev, next)
 }
 
 // The left of a join: from the next section back to the previous one.
@@ -134,13 +128,11 @@ fn left_join(out: &mut [i32], at: usize, pen: Pen, prev: Section, next: Section)
     requires room { Room edge_numbers at (left_join pen.step prev next) }
     ensures { Lays pen.step pen.folds out.old at (left_join pen.step prev next) out.new result }
 {
-    let p = next.left.a;
-    let q = prev.left.b;
-    let v = next.a;
     if left_turns(prev, next) {
-        return arc_about(out, at, pen, v, p, q, Sweep::Minor);
+        arc_about(out, at, pen, next.a, next.left.a, prev.left.b, Sweep::Minor)
+    } else {
+        edge(out, at, next.left.a, prev.left.b)
     }
-    edge(out, at, p, q)
 }
 
 // The right of a join: from the previous section to the next one.
@@ -149,13 +141,19 @@ fn right_join(out: &mut [i32], at: usize, pen: Pen, prev: Section, next: Section
     requires room { Room edge_numbers at (right_join pen.step prev next) }
     ensures { Lays pen.step pen.folds out.old at (right_join pen.step prev next) out.new result }
 {
-    let p = prev.right.b;
-    let q = next.right.a;
-    let v = prev.b;
     if right_turns(prev, next) {
-        return arc_about(out, at, pen, v, p, q, Sweep::Major);
+        arc_about(
+            out,
+            at,
+            pen,
+            prev.b,
+            prev.right.b,
+            next.right.a,
+            Sweep::Major,
+        )
+    } else {
+        edge(out, at, prev.right.b, next.right.a)
     }
-    edge(out, at, p, q)
 }
 
 // A gap: the previous section ends, and the next one starts, with a straight edge.
@@ -174,9 +172,10 @@ pub fn join(out: &mut [i32], at: usize, pen: Pen, prev: Section, next: Section) 
     requires room { Room edge_numbers at (join_of pen.step prev next) }
     ensures { Lays pen.step pen.folds out.old at (join_of pen.step prev next) out.new result }
 {
-    if same(centre(prev.b), centre(next.a)) {
+    if centre(prev.b) == centre(next.a) {
         let n = left_join(out, at, pen, prev, next);
-        return right_join(out, n, pen, prev, next);
+        right_join(out, n, pen, prev, next)
+    } else {
+        gap(out, at, pen, prev, next)
     }
-    gap(out, at, pen, prev, next)
 }

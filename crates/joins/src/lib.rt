@@ -4,7 +4,7 @@
 pub mod builder_join;
 
 // How a chain starts or ends.
-#[derive(Clone, Copy)]
+#[derive(Clone, Copy, PartialEq, Eq)]
 pub enum Cap {
     Butt,
     Round,

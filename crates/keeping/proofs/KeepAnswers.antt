@@ -1,4 +1,5 @@
 -- What keep makes of a path: the rows' refusal, or the outline where the room's row lets it. Assumes nothing.
+use Rattle.std.specs.Prelude.{Result, Err}
 use mathlib.Core.Path.{◌≡◌, refl, sym, ap, ◌∙◌}
 use mathlib.Core.List.{List, [], ◌∷◌, ◌++◌, append-nil}
 use Prim.Native.Nat.{ℕ, zero, suc, ◌-◌}
@@ -12,15 +13,11 @@ use Rattle.outline.proofs.Parts.{same_outline}
 use Rattle.outline.specs.declared.Edition.TheVariants.{Second}
 use Rattle.outline.specs.declared.Form.TheVariants.{Stroke}
 use Rattle.replies.specs.Replies.{Reply, first_row, empty_row, room_row, path_rows, written}
-use Rattle.keeping.specs.Keeping.{write_rows, plain_posts, keep_reply, keep_out, reply_of_kept, Keeps}
-use Rattle.replies.specs.Refusals.{refusal_of}
+use Rattle.keeping.specs.Keeping.{write_rows, plain_posts, keep_reply, keep_out, Keeps}
+use Rattle.replies.specs.Refusals.{refusal_of, reply_of}
 use Rattle.replies.specs.Checks.{Fits, PathSays}
 use Rattle.keeping.specs.Rewriting.{Rewrites}
 use Rattle.replies.specs.declared.Refusal.{Refusal}
-use Rattle.keeping.specs.declared.Kept.{Kept}
-use Rattle.keeping.specs.declared.Kept.TheVariants as kept
-use Rattle.replies.specs.declared.path_rows.PathCheck.{PathCheck}
-use Rattle.replies.specs.declared.path_rows.PathCheck.TheVariants.{Refused}
 use Rattle.replies.proofs.Rows.{rows_append, refused_written}
 use Rattle.replies.proofs.PathChecks.{path_refuses}
 
@@ -28,17 +25,17 @@ use Rattle.replies.proofs.PathChecks.{path_refuses}
 pub no_zeros : (new : List ℕ) → new ++ replicate (0 - length new) 0 ≡ new
 no_zeros new = let e : 0 - length new ≡ 0 = omega arith in rw e (append-nil new)
 
-pub keeps_done : (path : List ℤ) (ps : List ℕ) {g n : ℕ} {out out₁ : List ℕ} {r : Kept} → Fits path g n → Rewrites out (Stroke Second) g ps (path_of path) 0 r out₁ → Keeps path ps g out r out₁
+pub keeps_done : (path : List ℤ) (ps : List ℕ) {g n : ℕ} {out out₁ : List ℕ} {r : Result ℕ Refusal} → Fits path g n → Rewrites out (Stroke Second) g ps (path_of path) 0 r out₁ → Keeps path ps g out r out₁
 unfolding keep_reply keep_out
 keeps_done path ps {g} {out = out} {r = r} h p =
     let new = outline_bytes (Stroke Second) g ps (path_of path) in
-    let k : reply_of_kept r ≡ keep_reply path ps g (length out) = p.reply ∙ sym (rows_append (path_rows path g) _ (0, length new) ∙ h.passed _) in
+    let k : reply_of r ≡ keep_reply path ps g (length out) = p.reply ∙ sym (rows_append (path_rows path g) _ (0, length new) ∙ h.passed _) in
     record { reply = k; out = p.bytes ∙ (λ i. written (k i) (no_zeros new i) out) }
 
-pub keeps_refused : (path : List ℤ) (ps : List ℕ) {g : ℕ} {c : PathCheck} (out : List ℕ) {r : Refusal} → PathSays path g c → c ≡ Refused r → Keeps path ps g out (kept.Refused r) out
-unfolding keep_reply keep_out reply_of_kept
-keeps_refused path ps {g} {c} out {r} s e =
-    let k : refusal_of r ≡ keep_reply path ps g (length out) = path_refuses path _ _ s e in
+pub keeps_refused : (path : List ℤ) (ps : List ℕ) {g : ℕ} (out : List ℕ) {r : Refusal} → PathSays path g (Err r) → Keeps path ps g out (Err r) out
+unfolding keep_reply keep_out
+keeps_refused path ps {g} out {r} s =
+    let k : refusal_of r ≡ keep_reply path ps g (length out) = path_refuses path _ _ s refl in
     record { reply = k; out = refused_written r (outline_bytes (Stroke Second) g ps (path_of path)) out k }
 
 -- ---- posts that are all 0 are none
@@ -53,7 +50,7 @@ one_zero : (k : ℕ) → get_or {A = ℕ} (0 ∷ []) k 0 ≡ 0
 one_zero zero = refl
 one_zero (suc k) = refl
 
-pub keeps_plain : (path : List ℤ) {ps : List ℕ} {g : ℕ} {out out₁ : List ℕ} {r : Kept} → ps ≡ 0 ∷ [] → Keeps path ps g out r out₁ → Keeps path (plain_posts path) g out r out₁
+pub keeps_plain : (path : List ℤ) {ps : List ℕ} {g : ℕ} {out out₁ : List ℕ} {r : Result ℕ Refusal} → ps ≡ 0 ∷ [] → Keeps path ps g out r out₁ → Keeps path (plain_posts path) g out r out₁
 unfolding keep_reply keep_out write_rows plain_posts
 keeps_plain path {ps} {g} {out} e p =
     let vs = path_of path in

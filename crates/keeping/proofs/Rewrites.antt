@@ -1,48 +1,62 @@
 -- An outline over lent bytes: zeros byte by byte, and what the two rows before it make of it. Assumes nothing.
+use Rattle.std.specs.Prelude.{Ok, Err, min}
+use Rattle.std.proofs.lemmas.List.{append_assoc, set_past, drop-drop, replicate-append-replicate}
+use Rattle.std.proofs.lemmas.Bool.{cases_lt}
+use mathlib.Core.Logic.{⊎_elim}
 use mathlib.Core.Path.{◌≡◌, refl, sym, ap, ◌∙◌}
 use mathlib.Core.Bool.{true, false}
-use mathlib.Core.List.{List, ◌++◌}
+use mathlib.Core.List.{List, [], ◌∷◌, ◌++◌}
 use Prim.Native.Nat.{ℕ, suc, ◌+◌, ◌-◌, ◌≤◌, ◌<◌}
 use native.Mathlib.Nat.{zero-add}
-use native.Mathlib.Numerals.{add-one}
 use native.Mathlib.Omega.{arith}
-use lib.ListN.{length, set, replicate, length-append, length-replicate, length-set}
+use lib.ListN.{length, take, drop, replicate, length-append, length-replicate, length-drop}
+use lib.Seq.{sets-eq, length-sets, length-take-le}
+use borrow.Rule.Slice.PartMut.{put_mid}
 use Rattle.runs.specs.Runs.{spread, over, Runs, put}
 use Rattle.runs.proofs.Laws.{over-append}
-use Rattle.runs.proofs.Written.{over_whole}
+use Rattle.runs.proofs.Written.{over_whole, over_sets}
 use Rattle.contacts.specs.declared.Vertex.{Vertex}
 use Rattle.outline.specs.Layout.{length_of}
 use Rattle.words.specs.Words.{four_bytes, bytes_of}
 use Rattle.outline.specs.Outlines.{edges_for, outline_words, outline_bytes}
 use Rattle.replies.specs.Replies.{empty_row}
-use Rattle.replies.specs.Refusals.{refusal_of}
-use Rattle.keeping.specs.Keeping.{write_rows, reply_of_kept}
+use Rattle.replies.specs.Refusals.{reply_of}
+use Rattle.keeping.specs.Keeping.{write_rows}
 use Rattle.keeping.specs.Rewriting.{Writes, Rewrites}
 use Rattle.replies.specs.declared.Refusal.TheVariants.{NoRoom, WithoutEdges}
-use Rattle.keeping.specs.declared.Kept.TheVariants.{Bytes, Refused}
 use Rattle.outline.proofs.ReadBack.{outline_length}
 use Rattle.outline.specs.declared.Form.{Form}
 use Rattle.replies.proofs.Rows.{first_holds, empty_passes, empty_not, room_short, room_enough, refused_written, done_written}
 
 -- ---- zeros
 
--- whoever clears from i on has cleared all from the start
-pub record Cleared (s₀ : List ℕ) (from : ℕ) (to : ℕ) (s : List ℕ) (i : ℕ) : Type 0 where
-  pub on : over put s₀ from (replicate (to - from) 0) ≡ over put s i (replicate (to - i) 0)
-  pub long : length s ≡ length s₀
-
-pub clear_start : {s : List ℕ} {from to : ℕ} → Cleared s from to s from
-clear_start = record { on = refl; long = refl }
-
-pub clear_step : {s₀ s s₁ : List ℕ} {from to i : ℕ} → Cleared s₀ from to s i → i < to → s₁ ≡ set s i 0 → Cleared s₀ from to s₁ (i + 1)
+-- past the end nothing is written
+over_past : (l : List ℕ) (i : ℕ) (vs : List ℕ) → length l ≤ i → over put l i vs ≡ l
 unfolding over
-clear_step {s = s} {to = to} {i} h l e =
-    let k : to - i ≡ suc (to - (i + 1)) = omega arith in
-    record { on = h.on ∙ rw (k, e, add-one i); long = ap length e ∙ length-set s i 0 ∙ h.long }
+over_past l i [] h = refl
+over_past l i (v ∷ vs) h = ap (λ (m : List ℕ). over put m (suc i) vs) (set_past l i v h) ∙ over_past l (suc i) vs (omega arith)
 
-pub clear_end : {s₀ s : List ℕ} {from to i : ℕ} → Cleared s₀ from to s i → to ≤ i → s ≡ over put s₀ from (replicate (to - from) 0)
+-- nothing to clear
+pub clear_none : (l : List ℕ) (a b : ℕ) → min b (length l) ≤ a → l ≡ over put l a (replicate (b - a) 0)
 unfolding over
-clear_end {to = to} {i} h l = let k : to - i ≡ 0 = omega arith in sym (h.on ∙ rw k)
+clear_none l a b h = ⊎_elim (λ k. let e : b - a ≡ 0 = omega arith in rw e) (λ k. sym (over_past l a (replicate (b - a) 0) (omega arith))) (cases_lt b (length l))
+
+-- zeros up to the end, and past it nothing
+pub clear_some : (l : List ℕ) (a b : ℕ) {e : ℕ} {zeros : List ℕ} → e ≡ min b (length l) → a < e → zeros ≡ replicate (length (take (e - a) (drop a l))) 0 → put_mid a (e - a) l zeros ≡ over put l a (replicate (b - a) 0)
+unfolding over
+clear_some l a b {e} {zeros} h k z =
+    let rest = replicate {A = ℕ} (b - e) 0 in
+    let n : length (take (e - a) (drop a l)) ≡ e - a = length-take-le (e - a) (drop a l) (omega (arith, length-drop a l)) in
+    let m : length zeros ≡ e - a = ap length z ∙ length-replicate _ 0 ∙ n in
+    let i : a + (e - a) ≡ a + length zeros = omega arith in
+    let put_first : put_mid a (e - a) l zeros ≡ over put l a zeros = sym (append_assoc (take a l) zeros (drop (e - a) (drop a l))) ∙ ap (λ (m : List ℕ). take a l ++ zeros ++ m) (drop-drop (e - a) a l ∙ ap (λ (x : ℕ). drop x l) i) ∙ sym (over_sets l a zeros ∙ sets-eq zeros l a (omega arith)) in
+    let long : length (over put l a zeros) ≡ length l = ap length (over_sets l a zeros) ∙ length-sets l a zeros in
+    let past : over put (over put l a zeros) (a + length zeros) rest ≡ over put l a zeros =
+    ⊎_elim (λ j. let q : b - e ≡ 0 = omega arith in rw q) (λ j. over_past (over put l a zeros) (a + length zeros) rest (omega arith)) (cases_lt b (length l)) in
+    let both : zeros ++ rest ≡ replicate (b - a) 0 =
+    let q : (e - a) + (b - e) ≡ b - a = omega arith in
+    rw (z, n, ← q) (replicate-append-replicate (e - a) (b - e) 0) in
+    put_first ∙ sym past ∙ over-append put l a zeros rest ∙ ap (over put l a) both
 
 -- ---- written
 
@@ -67,8 +81,8 @@ write_done f g ps vs s old {s₁} {s₂} {end} p q h o =
 -- ---- the rows before it
 
 module _ (f : Form) (g : ℕ) (ps : List ℕ) (vs : List Vertex) (s : List ℕ) (old : ℕ) {n m : ℕ} (en : n ≡ length vs) (em : m ≡ length (edges_for f g vs)) where
-  pub rewrite_empty : (empty_row n m).0 ≡ true → Rewrites s f g ps vs old (Refused (WithoutEdges n)) s
-  unfolding reply_of_kept refusal_of write_rows empty_row
+  pub rewrite_empty : (empty_row n m).0 ≡ true → Rewrites s f g ps vs old (Err (WithoutEdges n)) s
+  unfolding write_rows empty_row
   rewrite_empty h =
       let k : (empty_row (length vs) (length (edges_for f g vs))).0 ≡ true = rw (en, em) at h in
       record { reply = ap (λ (x : ℕ). (18, x)) en ∙ sym (first_holds _ _ _ k); bytes = refused_written (WithoutEdges n) _ s refl }
@@ -77,8 +91,8 @@ module _ (f : Form) (g : ℕ) (ps : List ℕ) (vs : List Vertex) (s : List ℕ) 
     some : 0 < length vs → 0 < length (edges_for f g vs)
     some = rw (en, em) at (empty_not n m h)
 
-    pub rewrite_short : {needed : ℕ} → needed ≡ length (outline_bytes f g ps vs) → length s < needed → Rewrites s f g ps vs old (Refused (NoRoom needed)) s
-    unfolding reply_of_kept refusal_of write_rows
+    pub rewrite_short : {needed : ℕ} → needed ≡ length (outline_bytes f g ps vs) → length s < needed → Rewrites s f g ps vs old (Err (NoRoom needed)) s
+    unfolding write_rows
     rewrite_short e l =
         let k = length (outline_bytes f g ps vs) in
         record {
@@ -86,8 +100,8 @@ module _ (f : Form) (g : ℕ) (ps : List ℕ) (vs : List Vertex) (s : List ℕ) 
           bytes = refused_written (NoRoom _) _ s refl;
         }
 
-    pub rewrite_done : {s₁ : List ℕ} {end : ℕ} → length (outline_bytes f g ps vs) ≤ length s → Writes s (outline_bytes f g ps vs) old end s₁ → Rewrites s f g ps vs old (Bytes end) s₁
-    unfolding reply_of_kept write_rows
+    pub rewrite_done : {s₁ : List ℕ} {end : ℕ} → length (outline_bytes f g ps vs) ≤ length s → Writes s (outline_bytes f g ps vs) old end s₁ → Rewrites s f g ps vs old (Ok end) s₁
+    unfolding write_rows
     rewrite_done l w =
         let k = length (outline_bytes f g ps vs) in
         record {

@@ -1,6 +1,6 @@
 -- Document 01, "Replies, tested in this order": keep, its answer and its promise. Its row 18 is document 02's, request 9, its edition
 -- and posts request 11, and grade 1 is retired by request 13.
-use Rattle.std.specs.Prelude.{List, [], ◌∷◌, ◌++◌, ℕ, ◌%◌, ◌≤◌, ◌<◌, ℤ, length, take, ◌≡◌}
+use Rattle.std.specs.Prelude.{List, [], ◌∷◌, ◌++◌, ℕ, ◌%◌, ◌≤◌, ◌<◌, ℤ, length, take, ◌≡◌, Result}
 use Rattle.contacts.specs.declared.Vertex.{Vertex}
 use Rattle.paths.specs.Paths.{path_of, edges_of, Within}
 use Rattle.outline.specs.Outlines.{edges_for, outline_bytes}
@@ -9,9 +9,8 @@ use Rattle.outline.specs.declared.Edition.TheVariants.{Second}
 use Rattle.outline.specs.declared.Form.{Form}
 use Rattle.outline.specs.declared.Form.TheVariants.{Stroke}
 use Rattle.replies.specs.Replies.{Reply, Row, first_row, empty_row, room_row, path_rows, written}
-use Rattle.keeping.specs.declared.Kept.{Kept}
-use Rattle.keeping.specs.declared.Kept.TheVariants as kept
-use Rattle.replies.specs.Refusals.{refusal_of}
+use Rattle.replies.specs.Refusals.{reply_of}
+use Rattle.replies.specs.declared.Refusal.{Refusal}
 
 -- ---- keep them as bytes
 
@@ -33,12 +32,8 @@ keep_out l ps g room = written (keep_reply l ps g (length room)) (outline_bytes 
 unfoldable pub plain_posts : List ℤ → List ℕ
 plain_posts l = no_posts (length (path_of l))
 
-unfoldable pub reply_of_kept : Kept → Reply
-reply_of_kept (kept.Bytes n) = (0, n)
-reply_of_kept (kept.Refused r) = refusal_of r
-
-pub record Keeps (path : List ℤ) (posts : List ℕ) (grade : ℕ) (out₀ : List ℕ) (answer : Kept) (out₁ : List ℕ) : Type 0 where
-  pub reply : reply_of_kept answer ≡ keep_reply path posts grade (length out₀)
+pub record Keeps (path : List ℤ) (posts : List ℕ) (grade : ℕ) (out₀ : List ℕ) (answer : Result ℕ Refusal) (out₁ : List ℕ) : Type 0 where
+  pub reply : reply_of answer ≡ keep_reply path posts grade (length out₀)
   pub out : out₁ ≡ keep_out path posts grade out₀
 
 -- Numbers lent as triples, a grade from 2 on, vertices within the limits, an edge where there are vertices and room enough are kept.
@@ -54,4 +49,4 @@ OneOutlineKept = (path : List ℤ) (ps : List ℕ) (g m : ℕ) (a b : List ℕ) 
     × (take m (keep_out path ps g b) ≡ take m (keep_out path ps g a))
 
 abbrev pub OneKeeping : Type 0
-OneKeeping = (path : List ℤ) (ps : List ℕ) (g : ℕ) (out : List ℕ) (r q : Kept) (o p : List ℕ) → Keeps path ps g out r o → Keeps path ps g out q p → (r ≡ q) × (o ≡ p)
+OneKeeping = (path : List ℤ) (ps : List ℕ) (g : ℕ) (out : List ℕ) (r q : Result ℕ Refusal) (o p : List ℕ) → Keeps path ps g out r o → Keeps path ps g out q p → (r ≡ q) × (o ≡ p)

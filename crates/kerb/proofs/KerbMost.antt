@@ -1,4 +1,5 @@
 -- How many edges a kerb can have, and a piece of its tour: no count of one within the limits comes near 2^32. Assumes nothing.
+use Rattle.std.specs.Prelude.{Option, Some, None}
 use mathlib.Core.Bool.{Bool, true, false}
 use mathlib.Core.List.{List, [], ◌∷◌, ◌++◌}
 use Prim.Native.Nat.{suc, ◌+◌, ◌*◌, ◌≤◌}
@@ -23,7 +24,6 @@ use Rattle.kerb.specs.declared.Style.{Style}
 use Rattle.kerb.specs.declared.Phase.{Phase}
 use Rattle.kerb.specs.declared.Phase.TheVariants.{Sides, Corners, Caps, Done}
 use Rattle.kerb.specs.declared.Span.{Span}
-use Rattle.kerb.specs.declared.Span.TheVariants.{Nothing, Held}
 use Rattle.kerb.specs.declared.Tour.{Tour}
 use Rattle.kerb.specs.declared.Join.{Join}
 use Rattle.kerb.specs.declared.Join.TheVariants.{Bevel, Round}
@@ -92,20 +92,20 @@ kerb_most g y vs =
 
 -- ---- a piece of a tour
 
-span_most : (t : Vector) (y : Style) (e : Span) (s : Section) → Most 1539 (meet_of t y e s)
+span_most : (t : Vector) (y : Style) (e : Option Span) (s : Section) → Most 1539 (meet_of t y e s)
 unfolding meet_of
-span_most t y Nothing s = most_none _
-span_most t y (Held f l) s = corner_most t y l s
+span_most t y None s = most_none _
+span_most t y (Some p) s = corner_most t y p.last s
 
-closing_most : (t : Vector) (y : Style) (e : Span) → Most 1539 (closing_of t y e)
+closing_most : (t : Vector) (y : Style) (e : Option Span) → Most 1539 (closing_of t y e)
 unfolding closing_of
-closing_most t y Nothing = most_none _
-closing_most t y (Held f l) = most_if y.closed (corner_most t y l f) (most_none _)
+closing_most t y None = most_none _
+closing_most t y (Some p) = most_if y.closed (corner_most t y p.last p.first) (most_none _)
 
-both_most : (y : Style) (e : Span) → Most 1539 (caps_of y e)
+both_most : (y : Style) (e : Option Span) → Most 1539 (caps_of y e)
 unfolding caps_of caps_both
-both_most y Nothing = most_none _
-both_most y (Held f l) = most_if y.closed (most_none _) (most_up (omega arith) (most_both (edge_most _ _) (edge_most _ _)))
+both_most y None = most_none _
+both_most y (Some p) = most_if y.closed (most_none _) (most_up (omega arith) (most_both (edge_most _ _) (edge_most _ _)))
 
 emits_most : (t : Vector) (y : Style) (p : Phase) (bs : List Vertex) (w : Tour) → Most 1539 (emits_in p t y bs w)
 unfolding emits_in side_edges meet_edges sides_of

@@ -1,4 +1,6 @@
 -- One law for each case of a tour's pieces, with what the code has computed as variables and equations. Assumes nothing.
+use denote.Enum.Bare.{sameb}
+use Rattle.std.specs.Prelude.{Option, Some, None}
 use mathlib.Core.Path.{◌≡◌, refl, sym, ap, ◌∙◌}
 use mathlib.Core.Bool.{Bool, true, false}
 use mathlib.Core.List.{List, []}
@@ -14,30 +16,39 @@ use Rattle.contacts.specs.declared.Vertex.{Vertex}
 use Rattle.contacts.specs.declared.Section.{Section}
 use Rattle.kerb.specs.Kerbs.{corner_of}
 use Rattle.kerb.specs.Bounds.{Styled, KerbPoint, Clear, Joins, Joining, Closes, Capped}
-use Rattle.kerb.specs.Tours.{sides_of, caps_both, caps_of, closing_of, meet_of, held_of, side_edges, meet_edges, point_after, span_after, tour_at_corners, sided_of, met_of, in_phase, ahead_of, emits_in, next_in, KeptSpan, Ready, Tours}
+use Rattle.kerb.specs.Tours.{sides_of, caps_both, caps_of, closing_of, meet_of, held_of, side_edges, meet_edges, point_after, span_after, tour_at_corners, sided_of, met_of, in_phase, ahead_of, emits_in, next_in, done_of, KeptSpan, Ready, Tours}
 use Rattle.kerb.specs.declared.Style.{Style}
+use Rattle.kerb.specs.contracts.Phase.{the_type}
 use Rattle.kerb.specs.declared.Phase.{Phase}
 use Rattle.kerb.specs.declared.Phase.TheVariants.{Sides, Corners, Caps, Done}
 use Rattle.kerb.specs.declared.Span.{Span}
-use Rattle.kerb.specs.declared.Span.TheVariants.{Nothing, Held}
 use Rattle.kerb.specs.declared.Tour.{Tour}
 use Rattle.kerb.specs.declared.touring.Toured.{Toured}
 use Rattle.kerb.proofs.ClearSections.{section_clear}
+
+-- ---- whether every piece is done
+
+pub done_told : (p : Phase) {x : Bool} → x ≡ sameb the_type p Done → x ≡ done_of p
+unfolding done_of
+done_told Sides e = e
+done_told Corners e = e
+done_told Caps e = e
+done_told Done e = e
 
 -- ---- by the sections so far
 
 picked : {A : Type 0} (x : Bool) (a b : A) → x ≡ true → elim x [ true ↦ a | false ↦ b ] ≡ a
 picked x a b e = rw e
 
-module _ (t : Vector) (y : Style) {e : Span} where
-  module _ {f l : Section} (h : e ≡ Held f l) where
-    pub meets_held : (s : Section) → meet_of t y e s ≡ corner_of t y l s
+module _ (t : Vector) (y : Style) {e : Option Span} where
+  module _ {p : Span} (h : e ≡ Some p) where
+    pub meets_held : (s : Section) → meet_of t y e s ≡ corner_of t y p.last s
     unfolding meet_of
     meets_held s = rw h
 
-    pub closing_held : y.closed ≡ true → closing_of t y e ≡ corner_of t y l f
+    pub closing_held : y.closed ≡ true → closing_of t y e ≡ corner_of t y p.last p.first
     unfolding closing_of
-    closing_held k = rw h (picked y.closed (corner_of t y l f) [] k)
+    closing_held k = rw h (picked y.closed (corner_of t y p.last p.first) [] k)
 
     pub closing_open : y.closed ≡ false → closing_of t y e ≡ []
     unfolding closing_of
@@ -47,11 +58,11 @@ module _ (t : Vector) (y : Style) {e : Span} where
     unfolding caps_of
     caps_closed k = rw (h, caps_of, k)
 
-    pub caps_open : y.closed ≡ false → caps_of y e ≡ caps_both f l
+    pub caps_open : y.closed ≡ false → caps_of y e ≡ caps_both p.first p.last
     unfolding caps_of
     caps_open k = rw (h, caps_of, k)
 
-  module _ (h : e ≡ Nothing) where
+  module _ (h : e ≡ None) where
     pub meets_none : (s : Section) → meet_of t y e s ≡ []
     unfolding meet_of
     meets_none s = rw h
@@ -64,15 +75,15 @@ module _ (t : Vector) (y : Style) {e : Span} where
     unfolding caps_of
     caps_none = rw h
 
-pub joins_held : {e : Span} {f l : Section} (s : Section) → e ≡ Held f l → Joins e s → Clear l × (centre_of l.b ≡ centre_of s.a)
+pub joins_held : {e : Option Span} {p : Span} (s : Section) → e ≡ Some p → Joins e s → Clear p.last × (centre_of p.last.b ≡ centre_of s.a)
 unfolding Joins
 joins_held s h k = rw h at k
 
-pub closes_held : (y : Style) {e : Span} {f l : Section} → e ≡ Held f l → Closes y e → Clear f × Clear l × (y.closed ≡ true → centre_of l.b ≡ centre_of f.a)
+pub closes_held : (y : Style) {e : Option Span} {p : Span} → e ≡ Some p → Closes y e → Clear p.first × Clear p.last × (y.closed ≡ true → centre_of p.last.b ≡ centre_of p.first.a)
 unfolding Closes
 closes_held y h k = rw h at k
 
-pub capped_held : {e : Span} {f l : Section} → e ≡ Held f l → Capped e → Clear f × Clear l
+pub capped_held : {e : Option Span} {p : Span} → e ≡ Some p → Capped e → Clear p.first × Clear p.last
 unfolding Capped
 capped_held h k = rw h at k
 
@@ -86,7 +97,7 @@ module _ (a b : Vertex) (h : same_point (centre_of a) (centre_of b) ≡ true) wh
   unfolding side_edges
   side_skip = rw (h, side_edges)
 
-  pub meet_skip : (t : Vector) (y : Style) (e : Span) → meet_edges t y e a b ≡ []
+  pub meet_skip : (t : Vector) (y : Style) (e : Option Span) → meet_edges t y e a b ≡ []
   unfolding meet_edges
   meet_skip t y e = rw (h, meet_edges)
 
@@ -94,7 +105,7 @@ module _ (a b : Vertex) (h : same_point (centre_of a) (centre_of b) ≡ true) wh
   unfolding point_after
   reach_skip = rw (h, point_after)
 
-  span_skip : (e : Span) → span_after e a b ≡ e
+  span_skip : (e : Option Span) → span_after e a b ≡ e
   unfolding span_after
   span_skip e = rw (h, span_after)
 
@@ -103,7 +114,7 @@ module _ (a b : Vertex) (h : same_point (centre_of a) (centre_of b) ≡ false) w
   unfolding side_edges
   side_some e = rw (h, side_edges, e)
 
-  pub meet_some : (t : Vector) (y : Style) (e : Span) {s : Section} → s ≡ section_of a b → meet_edges t y e a b ≡ meet_of t y e s
+  pub meet_some : (t : Vector) (y : Style) (e : Option Span) {s : Section} → s ≡ section_of a b → meet_edges t y e a b ≡ meet_of t y e s
   unfolding meet_edges
   meet_some t y e f = rw (h, meet_edges, f)
 
@@ -111,7 +122,7 @@ module _ (a b : Vertex) (h : same_point (centre_of a) (centre_of b) ≡ false) w
   unfolding point_after
   reach_some = rw (h, point_after)
 
-  span_some : (e : Span) → span_after e a b ≡ held_of e (section_of a b)
+  span_some : (e : Option Span) → span_after e a b ≡ held_of e (section_of a b)
   unfolding span_after
   span_some e = rw (h, span_after)
 
@@ -128,7 +139,7 @@ module _ (w : Tour) (b : Vertex) where
   unfolding met_of
   met_skip h = rw (reach_skip w.at b h, span_skip w.at b h w.span)
 
-  pub met_some : {s : Section} {e : Span} → same_point (centre_of w.at) (centre_of b) ≡ false → s ≡ section_of w.at b → e ≡ held_of w.span s
+  pub met_some : {s : Section} {e : Option Span} → same_point (centre_of w.at) (centre_of b) ≡ false → s ≡ section_of w.at b → e ≡ held_of w.span s
       → record { phase = Corners; next = w.next + 1; at = b; span = e } ≡ met_of w b
   unfolding met_of
   met_some h f g = rw (g, f, reach_some w.at b h, span_some w.at b h w.span)
@@ -136,10 +147,10 @@ module _ (w : Tour) (b : Vertex) where
 pub clear_told : {y : Style} {a b : Vertex} {s : Section} → Styled y → KerbPoint y a → KerbPoint y b → same_point (centre_of a) (centre_of b) ≡ false → s ≡ section_of a b → Clear s
 clear_told w h k e f = rw f (section_clear h k e w)
 
-pub joins_told : (a b : Vertex) (e : Span) {s : Section} → s ≡ section_of a b → Joining a e → Joins e s
+pub joins_told : (a b : Vertex) (e : Option Span) {s : Section} → s ≡ section_of a b → Joining a e → Joins e s
 unfolding Joins Joining section_of
-joins_told a b Nothing f k = tt
-joins_told a b (Held g l) f k = (k.0, rw (k.1, f))
+joins_told a b None f k = tt
+joins_told a b (Some p) f k = (k.0, rw (k.1, f))
 
 -- ---- pieces: whether there is more ahead
 
@@ -183,25 +194,25 @@ module _ (t : Vector) (y : Style) (v : Vertex) (w : Tour) {more : Bool} (b : Ver
   unfolding KeptSpan Joining
   ready_joining r e = go w.span (rw e at r.span)
     where
-      go : (x : Span) → KeptSpan Corners v w.at x → Joining w.at x
-      go Nothing k = tt
-      go (Held f l) k = (k.1, k.3)
+      go : (x : Option Span) → KeptSpan Corners v w.at x → Joining w.at x
+      go None k = tt
+      go (Some p) k = (k.1, k.3)
 
   pub ready_closes : Ready y v w more b → w.phase ≡ Corners → more ≡ false → Closes y w.span
   unfolding KeptSpan Closes
   ready_closes r e h = go w.span (rw e at r.span)
     where
-      go : (x : Span) → KeptSpan Corners v w.at x → Closes y x
-      go Nothing k = tt
-      go (Held f l) k = (k.0, k.1, λ c. ap centre_of k.3 ∙ r.home h c ∙ ap centre_of (sym k.2))
+      go : (x : Option Span) → KeptSpan Corners v w.at x → Closes y x
+      go None k = tt
+      go (Some p) k = (k.0, k.1, λ c. ap centre_of k.3 ∙ r.home h c ∙ ap centre_of (sym k.2))
 
   pub ready_capped : Ready y v w more b → w.phase ≡ Caps → Capped w.span
   unfolding KeptSpan Capped
   ready_capped r e = go w.span (rw e at r.span)
     where
-      go : (x : Span) → KeptSpan Caps v w.at x → Capped x
-      go Nothing k = tt
-      go (Held f l) k = (k.0, k.1)
+      go : (x : Option Span) → KeptSpan Caps v w.at x → Capped x
+      go None k = tt
+      go (Some p) k = (k.0, k.1)
 
 -- the phase, as it is told
 module _ (t : Vector) (y : Style) (v : Vertex) (w : Tour) (more : Bool) (b : Vertex) where

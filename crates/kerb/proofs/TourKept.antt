@@ -1,8 +1,9 @@
 -- What a tour keeps from piece to piece, and how many pieces are left. Assumes nothing.
+use Rattle.std.specs.Prelude.{Option, Some, None}
 use mathlib.Core.Path.{◌≡◌, refl, sym, ◌∙◌}
 use mathlib.Core.Bool.{Bool, true, false, true≢false}
 use mathlib.Core.List.{List, [], ◌∷◌, ◌++◌}
-use Prim.Native.Nat.{ℕ, zero, suc, ◌+◌, ◌-◌, ◌^◌, ◌≤◌, ◌<◌}
+use Prim.Native.Nat.{ℕ, zero, suc, ◌^◌, ◌≤◌, ◌<◌}
 use native.Mathlib.Nat.{lt_of_not-le}
 use native.Mathlib.Decide.{dec_le}
 use native.Mathlib.Omega.{arith}
@@ -24,7 +25,6 @@ use Rattle.kerb.specs.declared.Style.{Style}
 use Rattle.kerb.specs.declared.Phase.{Phase}
 use Rattle.kerb.specs.declared.Phase.TheVariants.{Sides, Corners, Caps, Done}
 use Rattle.kerb.specs.declared.Span.{Span}
-use Rattle.kerb.specs.declared.Span.TheVariants.{Nothing, Held}
 use Rattle.kerb.specs.declared.Tour.{Tour}
 use Rattle.kerb.proofs.ClearSections.{section_clear}
 use Rattle.kerb.proofs.TourLaw.{drop_next, some_ahead, rest_step}
@@ -94,12 +94,12 @@ reach_stop y a b h k = go (same_point (centre_of a) (centre_of b))
     go false = k
 
 module _ {y : Style} (v : Vertex) (s : Styled y) where
-  held_kept : (a b : Vertex) (e : Span) → KerbPoint y a → KerbPoint y b → same_point (centre_of a) (centre_of b) ≡ false → KeptSpan Corners v a e → KeptSpan Corners v b (held_of e (section_of a b))
+  held_kept : (a b : Vertex) (e : Option Span) → KerbPoint y a → KerbPoint y b → same_point (centre_of a) (centre_of b) ≡ false → KeptSpan Corners v a e → KeptSpan Corners v b (held_of e (section_of a b))
   unfolding KeptSpan held_of section_of
-  held_kept a b Nothing h k n g = let w = section_clear h k n s in (w, w, g, refl)
-  held_kept a b (Held f l) h k n g = (g.0, section_clear h k n s, g.2, refl)
+  held_kept a b None h k n g = let w = section_clear h k n s in (w, w, g, refl)
+  held_kept a b (Some p) h k n g = (g.0, section_clear h k n s, g.2, refl)
 
-  span_kept : (a b : Vertex) (e : Span) → KerbPoint y a → KerbPoint y b → KeptSpan Corners v a e → KeptSpan Corners v (point_after a b) (span_after e a b)
+  span_kept : (a b : Vertex) (e : Option Span) → KerbPoint y a → KerbPoint y b → KeptSpan Corners v a e → KeptSpan Corners v (point_after a b) (span_after e a b)
   unfolding point_after span_after
   span_kept a b e h k g = go (same_point (centre_of a) (centre_of b)) refl
     where
@@ -107,10 +107,10 @@ module _ {y : Style} (v : Vertex) (s : Styled y) where
       go true n = g
       go false n = held_kept a b e h k n g
 
-  caps_kept : (a : Vertex) (e : Span) → KeptSpan Corners v a e → KeptSpan Caps v a e
+  caps_kept : (a : Vertex) (e : Option Span) → KeptSpan Corners v a e → KeptSpan Caps v a e
   unfolding KeptSpan
-  caps_kept a Nothing g = tt
-  caps_kept a (Held f l) g = (g.0, g.1)
+  caps_kept a None g = tt
+  caps_kept a (Some p) g = (g.0, g.1)
 
   module _ (qs : List Vertex) (w : Tour) (first : KerbPoint y v) (home : Homeward y v v qs) (h : Kept y v qs w) where
     kept_in : (p : Phase) (bs : List Vertex) → w.phase ≡ p → drop w.next qs ≡ bs → KerbPoints y bs → KeptSpan p v w.at w.span → Homeward y v w.at bs → Kept y v qs (next_in p v bs w)

@@ -1,4 +1,5 @@
 -- The law of a tour: what is to come is what the next piece emits, and what is to come after it. Assumes nothing.
+use Rattle.std.specs.Prelude.{Option, Some, None}
 use mathlib.Core.Path.{◌≡◌, refl, sym, ap, ◌∙◌}
 use mathlib.Core.Bool.{Bool, true, false, true≢false}
 use mathlib.Core.List.{List, [], ◌∷◌, ◌++◌, append_assoc, append-nil}
@@ -28,7 +29,6 @@ use Rattle.kerb.specs.declared.Style.{Style}
 use Rattle.kerb.specs.declared.Phase.{Phase}
 use Rattle.kerb.specs.declared.Phase.TheVariants.{Sides, Corners, Caps, Done}
 use Rattle.kerb.specs.declared.Span.{Span}
-use Rattle.kerb.specs.declared.Span.TheVariants.{Nothing, Held}
 use Rattle.kerb.specs.declared.Tour.{Tour}
 
 -- ---- the points ahead
@@ -71,17 +71,17 @@ side_on a b bs = go (same_point (centre_of a) (centre_of b))
 -- ---- the corners, and the caps after them
 
 module _ (t : Vector) (y : Style) where
-  joins_some : (e : Span) (s : Section) (ss : List Section) → rest_joins t y e (s ∷ ss) ≡ meet_of t y e s ++ rest_joins t y (held_of e s) ss
+  joins_some : (e : Option Span) (s : Section) (ss : List Section) → rest_joins t y e (s ∷ ss) ≡ meet_of t y e s ++ rest_joins t y (held_of e s) ss
   unfolding rest_joins meet_of held_of join_edges corners_from
-  joins_some Nothing s ss = refl
-  joins_some (Held f l) s ss = refl
+  joins_some None s ss = refl
+  joins_some (Some p) s ss = refl
 
-  caps_some : (e : Span) (s : Section) (ss : List Section) → rest_caps y e (s ∷ ss) ≡ rest_caps y (held_of e s) ss
+  caps_some : (e : Option Span) (s : Section) (ss : List Section) → rest_caps y e (s ∷ ss) ≡ rest_caps y (held_of e s) ss
   unfolding rest_caps held_of cap_edges caps_of caps_both last_of
-  caps_some Nothing s ss = refl
-  caps_some (Held f l) s ss = refl
+  caps_some None s ss = refl
+  caps_some (Some p) s ss = refl
 
-  joins_on : (e : Span) (a b : Vertex) (bs : List Vertex)
+  joins_on : (e : Option Span) (a b : Vertex) (bs : List Vertex)
       → rest_joins t y e (sections_from a (b ∷ bs)) ≡ meet_edges t y e a b ++ rest_joins t y (span_after e a b) (sections_from (point_after a b) bs)
   unfolding sections_from meet_edges span_after point_after
   joins_on e a b bs = go (same_point (centre_of a) (centre_of b))
@@ -91,7 +91,7 @@ module _ (t : Vector) (y : Style) where
       go true = refl
       go false = joins_some e (section_of a b) (sections_from b bs)
 
-  caps_on : (e : Span) (a b : Vertex) (bs : List Vertex) → rest_caps y e (sections_from a (b ∷ bs)) ≡ rest_caps y (span_after e a b) (sections_from (point_after a b) bs)
+  caps_on : (e : Option Span) (a b : Vertex) (bs : List Vertex) → rest_caps y e (sections_from a (b ∷ bs)) ≡ rest_caps y (span_after e a b) (sections_from (point_after a b) bs)
   unfolding sections_from span_after point_after
   caps_on e a b bs = go (same_point (centre_of a) (centre_of b))
     where
@@ -100,19 +100,19 @@ module _ (t : Vector) (y : Style) where
       go true = refl
       go false = caps_some e (section_of a b) (sections_from b bs)
 
-  joins_last : (e : Span) → rest_joins t y e [] ≡ closing_of t y e
+  joins_last : (e : Option Span) → rest_joins t y e [] ≡ closing_of t y e
   unfolding rest_joins closing_of join_edges corners_from back_to
-  joins_last Nothing = refl
-  joins_last (Held f l) = go y.closed
+  joins_last None = refl
+  joins_last (Some p) = go y.closed
     where
-      go : (x : Bool) → corners_from t y l (back_to x f) ≡ elim x [ true ↦ corner_of t y l f | false ↦ [] ]
-      go true = append-nil (corner_of t y l f)
+      go : (x : Bool) → corners_from t y p.last (back_to x p.first) ≡ elim x [ true ↦ corner_of t y p.last p.first | false ↦ [] ]
+      go true = append-nil (corner_of t y p.last p.first)
       go false = refl
 
-  caps_last : (e : Span) → rest_caps y e [] ≡ caps_of y e
+  caps_last : (e : Option Span) → rest_caps y e [] ≡ caps_of y e
   unfolding rest_caps cap_edges caps_of last_of
-  caps_last Nothing = refl
-  caps_last (Held f l) = refl
+  caps_last None = refl
+  caps_last (Some p) = refl
 
   -- ---- the law
 

@@ -1,5 +1,5 @@
 -- What the limits leave of a kerb's points and sections.
-use Rattle.std.specs.Prelude.{◌≡◌, ◌<◌, true, false, List, [], ◌∷◌, pos}
+use Rattle.std.specs.Prelude.{◌≡◌, ◌<◌, true, false, List, [], ◌∷◌, pos, Option, Some, None}
 use Rattle.std.specs.Int.Signed.{le_z}
 use Rattle.plane.specs.Vectors.{from_to, square_of}
 use Rattle.plane.specs.declared.Point.{Point}
@@ -10,7 +10,6 @@ use Rattle.contacts.specs.declared.Vertex.{Vertex}
 use Rattle.contacts.specs.declared.Section.{Section}
 use Rattle.kerb.specs.declared.Style.{Style}
 use Rattle.kerb.specs.declared.Span.{Span}
-use Rattle.kerb.specs.declared.Span.TheVariants.{Nothing, Held}
 
 -- a point about a centre, and not that centre
 pub record OffCentre (c p : Point) : Type 0 where
@@ -36,23 +35,23 @@ pub record Clear (s : Section) : Type 0 where
   pub right_b : OffCentre (centre_of s.b) s.right.b
 
 -- a section goes on from the last one
-unfoldable pub Joins : Span → Section → Type 0
-Joins Nothing s = Unit {0}
-Joins (Held f l) s = Clear l × (centre_of l.b ≡ centre_of s.a)
+unfoldable pub Joins : Option Span → Section → Type 0
+Joins None s = Unit {0}
+Joins (Some p) s = Clear p.last × (centre_of p.last.b ≡ centre_of s.a)
 
 -- the last section span at a
-unfoldable pub Joining : Vertex → Span → Type 0
-Joining a Nothing = Unit {0}
-Joining a (Held f l) = Clear l × (l.b ≡ a)
+unfoldable pub Joining : Vertex → Option Span → Type 0
+Joining a None = Unit {0}
+Joining a (Some p) = Clear p.last × (p.last.b ≡ a)
 
 -- the first one goes on from the last one, if the kerb closes
-unfoldable pub Closes : Style → Span → Type 0
-Closes y Nothing = Unit {0}
-Closes y (Held f l) = Clear f × Clear l × (y.closed ≡ true → centre_of l.b ≡ centre_of f.a)
+unfoldable pub Closes : Style → Option Span → Type 0
+Closes y None = Unit {0}
+Closes y (Some p) = Clear p.first × Clear p.last × (y.closed ≡ true → centre_of p.last.b ≡ centre_of p.first.a)
 
-unfoldable pub Capped : Span → Type 0
-Capped Nothing = Unit {0}
-Capped (Held f l) = Clear f × Clear l
+unfoldable pub Capped : Option Span → Type 0
+Capped None = Unit {0}
+Capped (Some p) = Clear p.first × Clear p.last
 
 -- points of a kerb, one after another
 unfoldable pub KerbPoints : Style → List Vertex → Type 0

@@ -1,5 +1,5 @@
 -- A tour of a kerb's points, piece by piece: what each piece emits, what follows it, and what is still to come. Follows `Kerbs`.
-use Rattle.std.specs.Prelude.{◌≡◌, Bool, true, false, not, List, [], ◌∷◌, ◌++◌, ℕ, ◌+◌, ◌-◌, ◌^◌, ◌≤◌, ◌<◌, ltb, ℤ, length, drop}
+use Rattle.std.specs.Prelude.{◌≡◌, Bool, true, false, not, List, [], ◌∷◌, ◌++◌, ℕ, ◌+◌, ◌-◌, ◌^◌, ◌≤◌, ◌<◌, ltb, ℤ, length, drop, Option, Some, None}
 use Rattle.runs.specs.Runs.{spread}
 use Rattle.plane.specs.Vectors.{same_point}
 use Rattle.plane.specs.declared.Vector.{Vector}
@@ -16,7 +16,6 @@ use Rattle.kerb.specs.declared.Style.{Style}
 use Rattle.kerb.specs.declared.Phase.{Phase}
 use Rattle.kerb.specs.declared.Phase.TheVariants.{Sides, Corners, Caps, Done}
 use Rattle.kerb.specs.declared.Span.{Span}
-use Rattle.kerb.specs.declared.Span.TheVariants.{Nothing, Held}
 use Rattle.kerb.specs.declared.Tour.{Tour}
 use Rattle.kerb.specs.declared.touring.Toured.{Toured}
 
@@ -29,45 +28,45 @@ unfoldable pub caps_both : Section → Section → List Edge
 caps_both f l = edge_of f.left.a f.right.a ++ edge_of l.right.b l.left.b
 
 -- a closed kerb has no caps
-unfoldable pub caps_of : Style → Span → List Edge
-caps_of y Nothing = []
-caps_of y (Held f l) = elim y.closed [ true ↦ [] | false ↦ caps_both f l ]
+unfoldable pub caps_of : Style → Option Span → List Edge
+caps_of y None = []
+caps_of y (Some p) = elim y.closed [ true ↦ [] | false ↦ caps_both p.first p.last ]
 
 -- its last corner goes from the last section to the first
-unfoldable pub closing_of : Vector → Style → Span → List Edge
-closing_of t y Nothing = []
-closing_of t y (Held f l) = elim y.closed [ true ↦ corner_of t y l f | false ↦ [] ]
+unfoldable pub closing_of : Vector → Style → Option Span → List Edge
+closing_of t y None = []
+closing_of t y (Some p) = elim y.closed [ true ↦ corner_of t y p.last p.first | false ↦ [] ]
 
 -- the corner from the last section to s, if there is one
-unfoldable pub meet_of : Vector → Style → Span → Section → List Edge
-meet_of t y Nothing s = []
-meet_of t y (Held f l) s = corner_of t y l s
+unfoldable pub meet_of : Vector → Style → Option Span → Section → List Edge
+meet_of t y None s = []
+meet_of t y (Some p) s = corner_of t y p.last s
 
-unfoldable pub held_of : Span → Section → Span
-held_of Nothing s = Held s s
-held_of (Held f l) s = Held f s
+unfoldable pub held_of : Option Span → Section → Option Span
+held_of None s = Some (record { first = s; last = s })
+held_of (Some p) s = Some (record { first = p.first; last = s })
 
 -- ---- one point on: a point that equals the one reached is passed over
 
 unfoldable pub side_edges : Vertex → Vertex → List Edge
 side_edges a b = elim (same_point (centre_of a) (centre_of b)) [ true ↦ [] | false ↦ sides_of (section_of a b) ]
 
-unfoldable pub meet_edges : Vector → Style → Span → Vertex → Vertex → List Edge
+unfoldable pub meet_edges : Vector → Style → Option Span → Vertex → Vertex → List Edge
 meet_edges t y e a b = elim (same_point (centre_of a) (centre_of b)) [ true ↦ [] | false ↦ meet_of t y e (section_of a b) ]
 
 unfoldable pub point_after : Vertex → Vertex → Vertex
 point_after a b = elim (same_point (centre_of a) (centre_of b)) [ true ↦ a | false ↦ b ]
 
-unfoldable pub span_after : Span → Vertex → Vertex → Span
+unfoldable pub span_after : Option Span → Vertex → Vertex → Option Span
 span_after e a b = elim (same_point (centre_of a) (centre_of b)) [ true ↦ e | false ↦ held_of e (section_of a b) ]
 
 -- ---- a tour from v: bs is what lies ahead of it
 
 unfoldable pub tour_from : Vertex → Tour
-tour_from v = record { phase = Sides; next = 0; at = v; span = Nothing }
+tour_from v = record { phase = Sides; next = 0; at = v; span = None }
 
 unfoldable pub tour_at_corners : Vertex → Tour
-tour_at_corners v = record { phase = Corners; next = 0; at = v; span = Nothing }
+tour_at_corners v = record { phase = Corners; next = 0; at = v; span = None }
 
 unfoldable pub sided_of : Tour → Vertex → Tour
 sided_of w b = record { phase = Sides; next = w.next + 1; at = point_after w.at b; span = w.span }
@@ -109,13 +108,13 @@ tour_after v qs w = next_in w.phase v (drop w.next qs) w
 -- ---- what is still to come, body by body
 
 -- the corners and the caps of the sections so far and of ss after them
-unfoldable pub rest_joins : Vector → Style → Span → List Section → List Edge
-rest_joins t y Nothing ss = join_edges t y ss
-rest_joins t y (Held f l) ss = corners_from t y l (ss ++ back_to y.closed f)
+unfoldable pub rest_joins : Vector → Style → Option Span → List Section → List Edge
+rest_joins t y None ss = join_edges t y ss
+rest_joins t y (Some p) ss = corners_from t y p.last (ss ++ back_to y.closed p.first)
 
-unfoldable pub rest_caps : Style → Span → List Section → List Edge
-rest_caps y Nothing ss = cap_edges y ss
-rest_caps y (Held f l) ss = caps_of y (Held f (last_of l ss))
+unfoldable pub rest_caps : Style → Option Span → List Section → List Edge
+rest_caps y None ss = cap_edges y ss
+rest_caps y (Some p) ss = caps_of y (Some (record { first = p.first; last = last_of p.last ss }))
 
 unfoldable pub bodies_in : Phase → Vector → Style → Vertex → List Vertex → List Vertex → Tour → List (List Edge)
 bodies_in Sides t y v qs bs w = section_edges (sections_from w.at bs) ∷ join_edges t y (sections_from v qs) ∷ cap_edges y (sections_from v qs) ∷ []
@@ -179,12 +178,12 @@ last_point a (b ∷ bs) = last_point (point_after a b) bs
 unfoldable pub Homeward : Style → Vertex → Vertex → List Vertex → Type 0
 Homeward y v a bs = y.closed ≡ true → centre_of (last_point a bs) ≡ centre_of v
 
-unfoldable pub KeptSpan : Phase → Vertex → Vertex → Span → Type 0
+unfoldable pub KeptSpan : Phase → Vertex → Vertex → Option Span → Type 0
 KeptSpan Sides v a e = Unit {0}
-KeptSpan Corners v a Nothing = a ≡ v
-KeptSpan Corners v a (Held f l) = Clear f × Clear l × (f.a ≡ v) × (l.b ≡ a)
-KeptSpan Caps v a Nothing = Unit {0}
-KeptSpan Caps v a (Held f l) = Clear f × Clear l
+KeptSpan Corners v a None = a ≡ v
+KeptSpan Corners v a (Some p) = Clear p.first × Clear p.last × (p.first.a ≡ v) × (p.last.b ≡ a)
+KeptSpan Caps v a None = Unit {0}
+KeptSpan Caps v a (Some p) = Clear p.first × Clear p.last
 KeptSpan Done v a e = Unit {0}
 
 pub record Kept (y : Style) (v : Vertex) (qs : List Vertex) (w : Tour) : Type 0 where

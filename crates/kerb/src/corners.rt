@@ -65,8 +65,7 @@ pub fn outer(out: &mut [i32], at: usize, pen: Pen, y: Style, c: Point, p: Point,
     requires room { Room edge_numbers at (outer_of pen.step y.join c y.radius p q) }
     ensures { Lays pen.step pen.folds out.old at (outer_of pen.step y.join c y.radius p q) out.new result }
 {
-    let join = y.join;
-    match join {
+    match y.join {
         Join::Bevel => edge(out, at, p, q),
         Join::Round => round(out, at, pen, y, c, p, q),
     }
@@ -78,17 +77,14 @@ pub fn corner(out: &mut [i32], at: usize, pen: Pen, y: Style, prev: Section, nex
     requires room { Room edge_numbers at (corner_of pen.step y prev next) }
     ensures { Lays pen.step pen.folds out.old at (corner_of pen.step y prev next) out.new result }
 {
-    let prev_left = prev.left.b;
-    let prev_right = prev.right.b;
-    let next_left = next.left.a;
-    let next_right = next.right.a;
     let c = centre(prev.b);
     if 0 <= bend(prev, next) {
-        let i = two(out, at, next_left, c, c, prev_left);
-        return outer(out, i, pen, y, c, prev_right, next_right);
+        let i = two(out, at, next.left.a, c, c, prev.left.b);
+        outer(out, i, pen, y, c, prev.right.b, next.right.a)
+    } else {
+        let i = two(out, at, prev.right.b, c, c, next.right.a);
+        outer(out, i, pen, y, c, next.left.a, prev.left.b)
     }
-    let i = two(out, at, prev_right, c, c, next_right);
-    outer(out, i, pen, y, c, next_left, prev_left)
 }
 
 // A section's two edges.
@@ -97,9 +93,7 @@ pub fn sides(out: &mut [i32], at: usize, s: Section) -> usize
     requires room { Room edge_numbers at (sides_of s) }
     ensures { Runs put edge_numbers out.old at (sides_of s) out.new result }
 {
-    let left = s.left;
-    let right = s.right;
-    two(out, at, left.b, left.a, right.a, right.b)
+    two(out, at, s.left.b, s.left.a, s.right.a, s.right.b)
 }
 
 // The caps of a kerb that does not close.
@@ -108,9 +102,12 @@ pub fn caps(out: &mut [i32], at: usize, first: Section, last: Section) -> usize
     requires room { Room edge_numbers at (caps_both first last) }
     ensures { Runs put edge_numbers out.old at (caps_both first last) out.new result }
 {
-    let first_left = first.left.a;
-    let first_right = first.right.a;
-    let last_right = last.right.b;
-    let last_left = last.left.b;
-    two(out, at, first_left, first_right, last_right, last_left)
+    two(
+        out,
+        at,
+        first.left.a,
+        first.right.a,
+        last.right.b,
+        last.left.b,
+    )
 }

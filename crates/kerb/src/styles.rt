@@ -4,11 +4,13 @@ ghost use Rattle.kerb.specs.Styles.{join_numbered, style_of};
 
 use crate::{Join, Style};
 
-// How corners are joined, by its number.
-fn join_numbered(join: u32) -> Join
-    ensures { result ≡ join_numbered join }
-{
-    if join == 0 { Join::Bevel } else { Join::Round }
+// 0 is a bevel, any other number a round corner.
+impl From<u32> for Join {
+    ghost from_gives = { λ n r. r ≡ join_numbered n };
+
+    fn from(join: u32) -> Join {
+        if join == 0 { Join::Bevel } else { Join::Round }
+    }
 }
 
 // A style, by its numbers.
@@ -16,8 +18,8 @@ pub fn style_of(radius: u32, join: u32, closed: u32) -> Style
     ensures { result ≡ style_of radius join closed }
 {
     Style {
-        radius: radius as i64,
-        join: join_numbered(join),
+        radius: i64::from(radius),
+        join: Join::from(join),
         closed: closed == 1,
     }
 }

@@ -14,7 +14,6 @@ use contacts::math::centre;
 use contacts::sections::section;
 use contacts::{Section, Vertex};
 use folds::Pen;
-use plane::vectors::same;
 
 // A tour after a piece, and where the output has come to.
 #[derive(Clone, Copy)]
@@ -24,58 +23,60 @@ pub struct Toured {
 }
 
 // The corner from the last section to s, if there is one.
-fn meet(out: &mut [i32], at: usize, pen: Pen, y: Style, span: Span, s: Section) -> usize
+fn meet(out: &mut [i32], at: usize, pen: Pen, y: Style, span: Option<Span>, s: Section) -> usize
     requires unit_long { UnitLong pen.step × Styled y × Joins span s × Clear s }
     requires room { Room edge_numbers at (meet_of pen.step y span s) }
     ensures { Lays pen.step pen.folds out.old at (meet_of pen.step y span s) out.new result }
 {
     match span {
-        Span::Held(_, l) => corner(out, at, pen, y, l, s),
-        Span::Nothing => at,
+        Some(span) => corner(out, at, pen, y, span.last, s),
+        None => at,
     }
 }
 
 // The sections so far, and s.
-fn held(span: Span, s: Section) -> Span
+fn held(span: Option<Span>, s: Section) -> Option<Span>
     ensures { result ≡ held_of span s }
 {
     match span {
-        Span::Held(f, _) => Span::Held(f, s),
-        Span::Nothing => Span::Held(s, s),
+        Some(span) => Some(Span { last: s, ..span }),
+        None => Some(Span { first: s, last: s }),
     }
 }
 
 // The corner from the last section to the first, if the kerb closes.
-fn closing(out: &mut [i32], at: usize, pen: Pen, y: Style, span: Span) -> usize
+fn closing(out: &mut [i32], at: usize, pen: Pen, y: Style, span: Option<Span>) -> usize
     requires unit_long { UnitLong pen.step × Styled y × Closes y span }
     requires room { Room edge_numbers at (closing_of pen.step y span) }
     ensures { Lays pen.step pen.folds out.old at (closing_of pen.step y span) out.new result }
 {
     match span {
-        Span::Held(f, l) => {
+        Some(span) => {
             if y.closed {
-                return corner(out, at, pen, y, l, f);
+                corner(out, at, pen, y, span.last, span.first)
+            } else {
+                at
             }
-            at
         },
-        Span::Nothing => at,
+        None => at,
     }
 }
 
 // Both caps, if it does not.
-fn capping(out: &mut [i32], at: usize, pen: Pen, y: Style, span: Span) -> usize
+fn capping(out: &mut [i32], at: usize, pen: Pen, y: Style, span: Option<Span>) -> usize
     requires capped { Capped span }
     requires room { Room edge_numbers at (caps_of y span) }
     ensures { Lays pen.step pen.folds out.old at (caps_of y span) out.new result }
 {
     match span {
-        Span::Held(f, l) => {
+        Some(span) => {
             if y.closed {
-                return at;
+                at
+            } else {
+                caps(out, at, span.first, span.last)
             }
-            caps(out, at, f, l)
         },
-        Span::Nothing => at,
+        None => at,
     }
 }
 
@@ -88,7 +89,7 @@ impl Tour {
             phase: Phase::Sides,
             next: 0,
             at: v,
-            span: Span::Nothing,
+            span: None,
         }
     }
 
@@ -100,7 +101,7 @@ impl Tour {
             phase: Phase::Corners,
             next: 0,
             at: v,
-            span: Span::Nothing,
+            span: None,
         }
     }
 
@@ -110,29 +111,27 @@ impl Tour {
         requires room { Room edge_numbers at (side_edges self.at b) }
         ensures { Tours out.old at pen (sided_of self b) (side_edges self.at b) out.new result }
     {
-        let a = self.at;
-        let span = self.span;
         let next = self.next + 1;
-        if same(centre(a), centre(b)) {
-            return Toured {
+        if centre(self.at) == centre(b) {
+            Toured {
                 tour: Tour {
                     phase: Phase::Sides,
-                    next: next,
-                    at: a,
-                    span: span,
+                    next,
+                    ..self
                 },
-                at: at,
-            };
-        }
-        let n = sides(out, at, section(a, b));
-        Toured {
-            tour: Tour {
-                phase: Phase::Sides,
-                next: next,
-                at: b,
-                span: span,
-            },
-            at: n,
+                at,
+            }
+        } else {
+            let n = sides(out, at, section(self.at, b));
+            Toured {
+                tour: Tour {
+                    phase: Phase::Sides,
+                    next,
+                    at: b,
+                    ..self
+                },
+                at: n,
+            }
         }
     }
 
@@ -142,30 +141,28 @@ impl Tour {
         requires room { Room edge_numbers at (meet_edges pen.step y self.span self.at b) }
         ensures { Tours out.old at pen (met_of self b) (meet_edges pen.step y self.span self.at b) out.new result }
     {
-        let a = self.at;
-        let span = self.span;
         let next = self.next + 1;
-        if same(centre(a), centre(b)) {
-            return Toured {
+        if centre(self.at) == centre(b) {
+            Toured {
                 tour: Tour {
                     phase: Phase::Corners,
-                    next: next,
-                    at: a,
-                    span: span,
+                    next,
+                    ..self
                 },
-                at: at,
-            };
-        }
-        let s = section(a, b);
-        let n = meet(out, at, pen, y, span, s);
-        Toured {
-            tour: Tour {
-                phase: Phase::Corners,
-                next: next,
-                at: b,
-                span: held(span, s),
-            },
-            at: n,
+                at,
+            }
+        } else {
+            let s = section(self.at, b);
+            let n = meet(out, at, pen, y, self.span, s);
+            Toured {
+                tour: Tour {
+                    phase: Phase::Corners,
+                    next,
+                    at: b,
+                    span: held(self.span, s),
+                },
+                at: n,
+            }
         }
     }
 
@@ -185,11 +182,12 @@ impl Tour {
         ensures { Tours out.old at pen (next_in Sides first (ahead_of more b) self) (emits_in Sides pen.step y (ahead_of more b) self) out.new result }
     {
         if more {
-            return self.side(out, at, pen, y, b);
-        }
-        Toured {
-            tour: Tour::at_corners(first),
-            at: at,
+            self.side(out, at, pen, y, b)
+        } else {
+            Toured {
+                tour: Tour::at_corners(first),
+                at,
+            }
         }
     }
 
@@ -209,19 +207,16 @@ impl Tour {
         ensures { Tours out.old at pen (next_in Corners first (ahead_of more b) self) (emits_in Corners pen.step y (ahead_of more b) self) out.new result }
     {
         if more {
-            return self.corner(out, at, pen, y, b);
-        }
-        let span = self.span;
-        let closed_at = closing(out, at, pen, y, span);
-        let a = self.at;
-        Toured {
-            tour: Tour {
-                phase: Phase::Caps,
-                next: self.next,
-                at: a,
-                span: span,
-            },
-            at: closed_at,
+            self.corner(out, at, pen, y, b)
+        } else {
+            let closed_at = closing(out, at, pen, y, self.span);
+            Toured {
+                tour: Tour {
+                    phase: Phase::Caps,
+                    ..self
+                },
+                at: closed_at,
+            }
         }
     }
 
@@ -240,17 +235,12 @@ impl Tour {
         requires room { Room edge_numbers at (emits_in Caps pen.step y (ahead_of more b) self) }
         ensures { Tours out.old at pen (next_in Caps first (ahead_of more b) self) (emits_in Caps pen.step y (ahead_of more b) self) out.new result }
     {
-        let span = self.span;
-        let n = capping(out, at, pen, y, span);
-        let a = self.at;
         Toured {
             tour: Tour {
                 phase: Phase::Done,
-                next: self.next,
-                at: a,
-                span: span,
+                ..self
             },
-            at: n,
+            at: capping(out, at, pen, y, self.span),
         }
     }
 
@@ -269,12 +259,11 @@ impl Tour {
         requires room { Room edge_numbers at (emits_in self.phase pen.step y (ahead_of more b) self) }
         ensures { Tours out.old at pen (next_in self.phase first (ahead_of more b) self) (emits_in self.phase pen.step y (ahead_of more b) self) out.new result }
     {
-        let phase = self.phase;
-        match phase {
+        match self.phase {
             Phase::Sides => self.side_step(out, at, pen, y, first, more, b),
             Phase::Corners => self.corner_step(out, at, pen, y, first, more, b),
             Phase::Caps => self.cap_step(out, at, pen, y, first, more, b),
-            Phase::Done => Toured { tour: self, at: at },
+            Phase::Done => Toured { tour: self, at },
         }
     }
 
@@ -282,10 +271,8 @@ impl Tour {
     pub fn ends(self, more: bool) -> bool
         ensures { result ≡ ends_in self.phase more }
     {
-        let phase = self.phase;
-        match phase {
-            Phase::Sides => !more,
-            Phase::Corners => !more,
+        match self.phase {
+            Phase::Sides | Phase::Corners => !more,
             Phase::Caps => true,
             Phase::Done => false,
         }
@@ -295,12 +282,6 @@ impl Tour {
     pub fn done(self) -> bool
         ensures { result ≡ done_of self.phase }
     {
-        let phase = self.phase;
-        match phase {
-            Phase::Sides => false,
-            Phase::Corners => false,
-            Phase::Caps => false,
-            Phase::Done => true,
-        }
+        self.phase == Phase::Done
     }
 }

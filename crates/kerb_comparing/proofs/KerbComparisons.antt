@@ -9,7 +9,7 @@ use lib.ListN.{length, take}
 use lib.Signed.{le_z}
 use Rattle.runs.specs.Runs.{spread, Runs, agree}
 use Rattle.runs.proofs.Laws.{runs_none, runs_as, runs_to, runs_then}
-use Rattle.runs.proofs.Onward.{Onward, onward_start, onward_step, onward_as, onward_done}
+use Rattle.runs.proofs.Onward.{Onward, onward_step, onward_as, onward_done}
 use Rattle.plane.specs.Directions.{step_of}
 use Rattle.plane.specs.declared.Vector.{Vector}
 use Rattle.folds.proofs.Laid.{lays_plain}
@@ -76,9 +76,6 @@ pub record KerbGoing (t : Vector) (y : Style) (vs : List Vertex) (s : List ℕ) 
   pub bodies : Onward (agree s) four_bytes c₀.bodies c₀.at (words_ahead t y vs c₀.tour) c.bodies c.at (words_ahead t y vs c.tour)
 
 module _ (t : Vector) (y : Style) (vs : List Vertex) (s : List ℕ) where
-  pub kerb_begins : {c : KerbComparing} → Touring y (first_of vs) (way_of y vs) c.tour → TourRoom t y vs c.tour c.count c.entry c.at → KerbGoing t y vs s c c
-  kerb_begins h r = record { touring = h; room = r; table = onward_start; bodies = onward_start }
-
   module _ {c₀ c : KerbComparing} (p : KerbGoing t y vs s c₀ c) where
     pub kerb_on : {d : KerbComparing} → done_of c.tour.phase ≡ false → PieceAgrees t y vs s c d → KerbGoing t y vs s c₀ d
     kerb_on {d} e m = record {

@@ -47,19 +47,17 @@ pub struct Counted {
     pub entry: usize,
 }
 
-// The entries of the table: the points.
+// The entries of the table: the points. n counts points, here and below: each is two of the numbers.
 fn same_points(points: &[i32], n: usize, y: Style, s: &[u8]) -> usize
     requires { (n ≡ length (kerb_path y.radius points.now)) × (n ≤ 4096) × (first_outside (kerb_path y.radius points.now) ≡ length (kerb_path y.radius points.now)) }
     ensures { Runs (agree s.now) four_bytes 32 32 (spread point_words (kerb_path y.radius points.now)) result (32 + 8 * n) }
 {
     let mut ok = KERB_HEADER;
-    let mut k: usize = 0;
-    while k < n {
+    for k in 0..n {
         let v = point(points, y, k);
         let at = KERB_HEADER + KERB_ENTRY * k;
         let a = same_word(s, ok, at, wide_bits(v.x));
         ok = same_word(s, a, at + 4, wide_bits(v.y));
-        k += 1;
     }
     ok
 }
@@ -79,71 +77,63 @@ fn no_bodies(s: &[u8], ok: usize, entry: usize, base: usize) -> Compared
     }
 }
 
-// A comparison's next place in the table, once a piece was compared: its count, if that is due.
-fn same_count(c: KerbComparing, ends: bool, edges: usize, s: &[u8]) -> Counted
-    requires { (c.entry + 4 < 2 ^ 64) × (edges < 2 ^ 32) }
-    ensures { CountAgrees s.now c.table c.entry ends edges result }
-{
-    if ends {
-        let table = same_word(s, c.table, c.entry, edges as u32);
-        let entry = c.entry + 4;
-        return Counted {
-            count: 0,
-            table,
-            entry,
+impl KerbComparing {
+    // The next place in the table, once a piece was compared: its count, if that is due.
+    fn same_count(self, ends: bool, edges: usize, s: &[u8]) -> Counted
+        requires { (self.entry + 4 < 2 ^ 64) × (edges < 2 ^ 32) }
+        ensures { CountAgrees s.now self.table self.entry ends edges result }
+    {
+        if ends {
+            Counted {
+                count: 0,
+                table: same_word(s, self.table, self.entry, edges as u32),
+                entry: self.entry + 4,
+            }
+        } else {
+            Counted {
+                count: edges,
+                table: self.table,
+                entry: self.entry,
+            }
+        }
+    }
+
+    // The next piece: its edges stand in `own` while they are compared.
+    fn piece(
+        self,
+        points: &[i32],
+        n: usize,
+        y: Style,
+        t: Vector,
+        own: &mut [i32],
+        s: &[u8],
+    ) -> KerbComparing
+        requires lent { Lent y points.now n × UnitLong t × (piece_numbers ≤ length own.old) }
+        requires touring { Touring y (first_of (kerb_path y.radius points.now)) (way_of y (kerb_path y.radius points.now)) self.tour × (done_of self.tour.phase ≡ false) }
+        requires tour_room { TourRoom t y (kerb_path y.radius points.now) self.tour self.count self.entry self.at }
+        ensures { PieceAgrees t y (kerb_path y.radius points.now) s.now self result }
+    {
+        let pen = Pen {
+            step: t,
+            folds: false,
         };
-    }
-    Counted {
-        count: edges,
-        table: c.table,
-        entry: c.entry,
-    }
-}
-
-// The next piece: its edges stand in `own` while they are compared.
-fn compare_piece(
-    points: &[i32],
-    n: usize,
-    y: Style,
-    t: Vector,
-    c: KerbComparing,
-    own: &mut [i32],
-    s: &[u8],
-) -> KerbComparing
-    requires lent { Lent y points.now n × UnitLong t × (piece_numbers ≤ length own.old) × Touring y (first_of (kerb_path y.radius points.now)) (way_of y (kerb_path y.radius points.now)) c.tour }
-    requires phase_value { (done_of c.tour.phase ≡ false) × TourRoom t y (kerb_path y.radius points.now) c.tour c.count c.entry c.at }
-    ensures { PieceAgrees t y (kerb_path y.radius points.now) s.now c result }
-{
-    let pen = Pen {
-        step: t,
-        folds: false,
-    };
-    let tour = c.tour;
-    let p = piece(points, n, y, tour, pen, own, 0);
-    let k = p.at;
-    let next = p.tour;
-    let bodies = same_numbers(own, k, s, c.bodies, c.at);
-    let at = c.at + 4 * k;
-    let d = same_count(c, p.ends, c.count + k / 4, s);
-    KerbComparing {
-        tour: next,
-        count: d.count,
-        table: d.table,
-        entry: d.entry,
-        bodies,
-        at,
+        let p = piece(points, n, y, self.tour, pen, own, 0);
+        let k = p.at;
+        let bodies = same_numbers(own, k, s, self.bodies, self.at);
+        let at = self.at + 4 * k;
+        let d = self.same_count(p.ends, self.count + k / 4, s);
+        KerbComparing {
+            tour: p.tour,
+            count: d.count,
+            table: d.table,
+            entry: d.entry,
+            bodies,
+            at,
+        }
     }
 }
 
-// Whether every piece is compared.
-fn all_compared(c: KerbComparing) -> bool
-    ensures { result ≡ done_of c.tour.phase }
-{
-    let tour = c.tour;
-    tour.done()
-}
-
-// Every piece from a place on.
+// Every piece from a place on. No count of pieces stands ahead of a tour, so it goes on until the tour is done.
 fn compare_tour(
     points: &[i32],
     n: usize,
@@ -153,13 +143,14 @@ fn compare_tour(
     own: &mut [i32],
     s: &[u8],
 ) -> Compared
-    requires lent { Lent y points.now n × UnitLong t × (piece_numbers ≤ length own.old) × Touring y (first_of (kerb_path y.radius points.now)) (way_of y (kerb_path y.radius points.now)) start.tour }
+    requires lent { Lent y points.now n × UnitLong t × (piece_numbers ≤ length own.old) }
+    requires touring { Touring y (first_of (kerb_path y.radius points.now)) (way_of y (kerb_path y.radius points.now)) start.tour }
     requires tour_room { TourRoom t y (kerb_path y.radius points.now) start.tour start.count start.entry start.at }
     ensures { TourAgrees t y (kerb_path y.radius points.now) s.now start result }
 {
     let mut c = start;
-    while !all_compared(c) {
-        c = compare_piece(points, n, y, t, c, own, s);
+    while !c.tour.done() {
+        c = c.piece(points, n, y, t, own, s);
     }
     Compared {
         table: c.table,
@@ -183,10 +174,7 @@ pub fn compare_kerb(
     let base = KERB_LEAST + KERB_ENTRY * n;
     let entry = KERB_HEADER + KERB_ENTRY * n;
     let ok = same_points(points, n, y, s);
-    if n == 0 {
-        return no_bodies(s, ok, entry, base);
-    }
-    if y.radius <= 1 {
+    if n == 0 || y.radius <= 1 {
         return no_bodies(s, ok, entry, base);
     }
     let start = KerbComparing {

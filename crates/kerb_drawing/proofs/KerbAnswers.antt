@@ -1,4 +1,5 @@
 -- What drawing a kerb answers, case by case; what own numbers hold of it; and a kerb with edges is drawn into room enough. Assumes nothing.
+use Rattle.std.specs.Prelude.{Ok, Err}
 use mathlib.Core.Path.{◌≡◌, refl, sym, ap, ◌∙◌}
 use mathlib.Core.List.{List, [], ◌∷◌}
 use Prim.Native.Nat.{ℕ, ◌*◌, ◌/◌, ◌≤◌, ◌<◌}
@@ -17,16 +18,12 @@ use Rattle.kerb.specs.declared.Style.{Style}
 use Rattle.kerb_paths.specs.Points.{kerb_path}
 use Rattle.kerb_paths.proofs.PointsAhead.{kerb_empty}
 use Rattle.replies.specs.Replies.{first_row, empty_row, room_row}
-use Rattle.replies.specs.Refusals.{refusal_of}
+use Rattle.replies.specs.Refusals.{refusal_of, reply_of}
 use Rattle.replies.specs.declared.Refusal.{Refusal}
 use Rattle.replies.specs.declared.Refusal.TheVariants.{NoRoom, WithoutEdges}
 use Rattle.replies.proofs.Rows.{rows_append, empty_holds, empty_fails, empty_passes, room_short, room_enough, refused_written, done_written}
 use Rattle.kerb_rows.specs.KerbRows.{kerb_rows, kerb_due, KerbFits, KerbSays}
-use Rattle.kerb_rows.specs.declared.KerbCheck.{KerbCheck}
-use Rattle.kerb_rows.specs.declared.KerbCheck.TheVariants.{Refused}
 use Rattle.kerb_rows.proofs.KerbChecks.{within_passes, kerb_refuses, due_told, count_told}
-use Rattle.drawing.specs.Drawing.{reply_of_drawn}
-use Rattle.drawing.specs.declared.Drawn.TheVariants as drawn
 use Rattle.kerb_drawing.specs.Counted.{Counted}
 use Rattle.kerb_drawing.specs.KerbDrawing.{draw_kerb_reply, draw_kerb_out, DrawsKerb, KerbIsDrawn}
 
@@ -42,13 +39,13 @@ counted_put {out = out} h k e = record { out = e ∙ ap (over put out 0) (h.held
 
 module _ (l : List ℤ) (g r j c : ℕ) where
   -- a refusal changes nothing
-  refuses : (x : Refusal) (out : List ℤ) → refusal_of x ≡ draw_kerb_reply l g r j c (length out) → DrawsKerb l g r j c out (drawn.Refused x) out
-  unfolding draw_kerb_out reply_of_drawn
+  refuses : (x : Refusal) (out : List ℤ) → refusal_of x ≡ draw_kerb_reply l g r j c (length out) → DrawsKerb l g r j c out (Err x) out
+  unfolding draw_kerb_out
   refuses x out e = record { reply = e; out = refused_written x (spread edge_numbers (kerb_due l g r j c)) out e }
 
-  pub kerb_refused : {k : KerbCheck} (out : List ℤ) {x : Refusal} → KerbSays l g r j c k → k ≡ Refused x → DrawsKerb l g r j c out (drawn.Refused x) out
+  pub kerb_refused : (out : List ℤ) {x : Refusal} → KerbSays l g r j c (Err x) → DrawsKerb l g r j c out (Err x) out
   unfolding draw_kerb_reply
-  kerb_refused out {x} s e = refuses x out (kerb_refuses l _ _ s e)
+  kerb_refused out {x} s = refuses x out (kerb_refuses l _ _ s)
 
   -- the rows past the kerb's own
   module _ {n : ℕ} (h : KerbFits l g r j c n) where
@@ -69,19 +66,17 @@ module _ (l : List ℤ) (g r j c : ℕ) where
       count_due_lem : w / 4 ≡ length (kerb_due l g r j c)
       count_due_lem = omega (arith, numbers_due)
 
-      pub kerb_bare : (out : List ℤ) → w ≡ 0 → 0 < n → DrawsKerb l g r j c out (drawn.Refused (WithoutEdges n)) out
-      unfolding refusal_of
+      pub kerb_bare : (out : List ℤ) → w ≡ 0 → 0 < n → DrawsKerb l g r j c out (Err (WithoutEdges n)) out
       kerb_bare out z k =
           refuses (WithoutEdges n) out (sym (further (length out) ∙ empty_holds (length (kerb_path (pos r) l)) (length (kerb_due l g r j c)) _ _ (omega (arith, h.count, k)) (omega (arith, numbers_due, z)) ∙ ap (λ (i : ℕ). (18, i)) (sym h.count)))
 
-      pub kerb_short : (out : List ℤ) → length out < w → DrawsKerb l g r j c out (drawn.Refused (NoRoom (w / 4))) out
-      unfolding refusal_of
+      pub kerb_short : (out : List ℤ) → length out < w → DrawsKerb l g r j c out (Err (NoRoom (w / 4))) out
       kerb_short out k =
           let m = length (kerb_due l g r j c) in
           refuses (NoRoom (w / 4)) out (sym (further (length out) ∙ empty_fails (length (kerb_path (pos r) l)) m _ _ (omega (arith, numbers_due, k)) ∙ room_short (4 * m) (length out) m (0, m) (omega (arith, numbers_due, k)) ∙ ap (λ (i : ℕ). (5, i)) (sym count_due_lem)))
 
-      pub kerb_done : (0 < n → 0 < w) → w ≤ length s → DrawsKerb l g r j c s (drawn.Edges (w / 4)) s₁
-      unfolding draw_kerb_out reply_of_drawn
+      pub kerb_done : (0 < n → 0 < w) → w ≤ length s → DrawsKerb l g r j c s (Ok (w / 4)) s₁
+      unfolding draw_kerb_out
       kerb_done z k =
           let es = kerb_due l g r j c in
           let some : 0 < length (kerb_path (pos r) l) → 0 < length es = λ i. omega (arith, numbers_due, z (omega (arith, i, h.count))) in
@@ -92,7 +87,7 @@ module _ (l : List ℤ) (g r j c : ℕ) where
           }
 
     -- no points have no edges
-    pub kerb_none : (out : List ℤ) → n ≡ 0 → DrawsKerb l g r j c out (drawn.Edges 0) out
+    pub kerb_none : (out : List ℤ) → n ≡ 0 → DrawsKerb l g r j c out (Ok 0) out
     kerb_none out e =
         kerb_done {y = style_of r j c} refl (runs_as (kerb_empty g (style_of r j c) _ (sym (count_told l r j c {y = style_of r j c} refl h.count) ∙ e)) runs_none) (λ i. absurd (omega (arith, i, e))) (omega arith)
 

@@ -1,5 +1,5 @@
 -- Document 02, request 3: drawing a kerb, the replies tested in this order, and its promise. Grade 1 is retired by request 13.
-use Rattle.std.specs.Prelude.{◌≡◌, List, [], ◌∷◌, ◌++◌, ℕ, ◌*◌, ◌%◌, ◌≤◌, ◌<◌, ℤ, pos, length}
+use Rattle.std.specs.Prelude.{◌≡◌, List, [], ◌∷◌, ◌++◌, ℕ, ◌*◌, ◌%◌, ◌≤◌, ◌<◌, ℤ, pos, length, Result}
 use Rattle.runs.specs.Runs.{spread}
 use Rattle.turning.specs.Edges.{edge_numbers}
 use Rattle.kerb_paths.specs.Points.{kerb_path}
@@ -7,8 +7,8 @@ use Rattle.paths.specs.Paths.{Within}
 use Rattle.replies.specs.Replies.{Reply, first_row, empty_row, room_row, written}
 use Rattle.replies.specs.StyleRows.{style_fault}
 use Rattle.kerb_rows.specs.KerbRows.{kerb_rows, kerb_due}
-use Rattle.drawing.specs.Drawing.{reply_of_drawn}
-use Rattle.drawing.specs.declared.Drawn.{Drawn}
+use Rattle.replies.specs.Refusals.{reply_of}
+use Rattle.replies.specs.declared.Refusal.{Refusal}
 
 -- ---- draw a kerb's edges into lent numbers, four an edge
 
@@ -22,8 +22,8 @@ draw_kerb_out l g r j c room = written (draw_kerb_reply l g r j c (length room))
 
 -- ---- the promise: reply, number and every lent number afterwards
 
-pub record DrawsKerb (l : List ℤ) (g r j c : ℕ) (out₀ : List ℤ) (answer : Drawn) (out₁ : List ℤ) : Type 0 where
-  pub reply : reply_of_drawn answer ≡ draw_kerb_reply l g r j c (length out₀)
+pub record DrawsKerb (l : List ℤ) (g r j c : ℕ) (out₀ : List ℤ) (answer : Result ℕ Refusal) (out₁ : List ℤ) : Type 0 where
+  pub reply : reply_of answer ≡ draw_kerb_reply l g r j c (length out₀)
   pub out : out₁ ≡ draw_kerb_out l g r j c out₀
 
 -- Numbers lent as pairs, a grade from 2 on, a style, points within the limits that have edges, or none, and room enough are drawn.
@@ -33,4 +33,4 @@ KerbIsDrawn = (l : List ℤ) (g r j c room : ℕ) → length l % 2 ≡ 0 → 2 �
 
 -- The call has one outcome: two that its promise allows coincide.
 abbrev pub OneKerbDrawing : Type 0
-OneKerbDrawing = (l : List ℤ) (g r j c : ℕ) (out : List ℤ) (a b : Drawn) (o p : List ℤ) → DrawsKerb l g r j c out a o → DrawsKerb l g r j c out b p → (a ≡ b) × (o ≡ p)
+OneKerbDrawing = (l : List ℤ) (g r j c : ℕ) (out : List ℤ) (a b : Result ℕ Refusal) (o p : List ℤ) → DrawsKerb l g r j c out a o → DrawsKerb l g r j c out b p → (a ≡ b) × (o ≡ p)

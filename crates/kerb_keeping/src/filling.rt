@@ -3,7 +3,6 @@ ghost use Rattle.std.specs.Prelude.{false, ◌≡◌, [], ◌∷◌, ◌+◌, �
 ghost use Rattle.runs.specs.Runs.{Runs, put, spread};
 ghost use Rattle.plane.specs.Directions.{UnitLong};
 ghost use Rattle.turning.specs.Bounds.{Radius};
-ghost use Rattle.contacts.specs.Limits.{first_outside};
 ghost use Rattle.kerb.specs.Tours.{Touring, done_of};
 ghost use Rattle.kerb.specs.Kerbs.{kerb_edges};
 ghost use Rattle.kerb_paths.specs.Points.{kerb_path, first_of, way_of, Lent};
@@ -43,36 +42,31 @@ pub struct PutCount {
     pub table: usize,
 }
 
+// What a kerb's outline is made of: n points within the limits of a grade, and the style.
+#[derive(Clone, Copy)]
+pub struct KerbPlan<'a> {
+    pub points: &'a [i32],
+    pub n: usize,
+    pub grade: u32,
+    pub style: Style,
+    ghost counted: { n ≡ length (kerb_path style.radius points.now) },
+    ghost within: { Within grade (kerb_path style.radius points.now) },
+    ghost wide: { Radius style.radius },
+}
+
 // A kerb's header.
 fn put_header(s: &mut [u8], y: Style, grade: u32, n: u32, m: u32) -> usize
     requires { Radius y.radius }
     ensures { Runs put four_bytes s.old 0 (header_of (Kerb y) grade n m) s.new result }
 {
-    let join = y.join;
     let a = put_word(s, 0, FIRST_EDITION);
     let b = put_word(s, a, KERB_KIND);
     let c = put_word(s, b, grade);
     let d = put_word(s, c, n);
     let e = put_word(s, d, m);
     let f = put_word(s, e, wide_bits(y.radius));
-    let g = put_word(s, f, join_word(join));
+    let g = put_word(s, f, join_word(y.join));
     put_word(s, g, closed_word(y.closed))
-}
-
-// The entries of the table: the points.
-fn put_points(points: &[i32], n: usize, y: Style, s: &mut [u8]) -> usize
-    requires { (n ≡ length (kerb_path y.radius points.now)) × (n ≤ 4096) × (first_outside (kerb_path y.radius points.now) ≡ length (kerb_path y.radius points.now)) }
-    ensures { Runs put four_bytes s.old 32 (spread point_words (kerb_path y.radius points.now)) s.new result }
-{
-    let mut at = KERB_HEADER;
-    let mut k: usize = 0;
-    while k < n {
-        let v = point(points, y, k);
-        let a = put_word(s, at, wide_bits(v.x));
-        at = put_word(s, a, wide_bits(v.y));
-        k += 1;
-    }
-    at
 }
 
 // A body's count, if it is due.
@@ -90,67 +84,6 @@ fn put_count(s: &mut [u8], at: usize, ends: bool, edges: usize) -> PutCount
     }
 }
 
-// The next piece: its count, if that is due, and its edges, which stand in `own` on their way.
-fn fill_piece(
-    points: &[i32],
-    n: usize,
-    y: Style,
-    t: Vector,
-    f: KerbFilling,
-    own: &mut [i32],
-    s: &mut [u8],
-) -> KerbFilling
-    requires lent { Lent y points.now n × UnitLong t × (piece_numbers ≤ length own.old) × Touring y (first_of (kerb_path y.radius points.now)) (way_of y (kerb_path y.radius points.now)) f.tour }
-    requires phase_value { (done_of f.tour.phase ≡ false) × TourRoom t y (kerb_path y.radius points.now) f.tour f.count f.table f.bodies }
-    ensures { PieceFills t y (kerb_path y.radius points.now) s.old f s.new result }
-{
-    let pen = Pen {
-        step: t,
-        folds: false,
-    };
-    let tour = f.tour;
-    let p = piece(points, n, y, tour, pen, own, 0);
-    let k = p.at;
-    let next = p.tour;
-    let c = put_count(s, f.table, p.ends, f.count + k / 4);
-    let bodies = put_numbers(own, k, s, f.bodies);
-    KerbFilling {
-        tour: next,
-        count: c.count,
-        table: c.table,
-        bodies,
-    }
-}
-
-// Whether every piece is filled in.
-fn all_filled(f: KerbFilling) -> bool
-    ensures { result ≡ done_of f.tour.phase }
-{
-    let tour = f.tour;
-    tour.done()
-}
-
-// Every piece from a place on.
-fn fill_tour(
-    points: &[i32],
-    n: usize,
-    y: Style,
-    t: Vector,
-    start: KerbFilling,
-    own: &mut [i32],
-    s: &mut [u8],
-) -> usize
-    requires lent { Lent y points.now n × UnitLong t × (piece_numbers ≤ length own.old) × Touring y (first_of (kerb_path y.radius points.now)) (way_of y (kerb_path y.radius points.now)) start.tour }
-    requires tour_room { TourRoom t y (kerb_path y.radius points.now) start.tour start.count start.table start.bodies × Apart start.table (counts_ahead t y (kerb_path y.radius points.now) start.count start.tour) start.bodies (words_ahead t y (kerb_path y.radius points.now) start.tour) }
-    ensures { Both s.old start.table (counts_ahead t y (kerb_path y.radius points.now) start.count start.tour) start.bodies (words_ahead t y (kerb_path y.radius points.now) start.tour) s.new result }
-{
-    let mut f = start;
-    while !all_filled(f) {
-        f = fill_piece(points, n, y, t, f, own, s);
-    }
-    f.bodies
-}
-
 // The counts of a kerb without edges.
 fn put_none(s: &mut [u8], at: usize) -> usize
     requires { at + 12 < 2 ^ 64 }
@@ -161,34 +94,71 @@ fn put_none(s: &mut [u8], at: usize) -> usize
     put_word(s, b, 0)
 }
 
-// The outline of a kerb of m edges.
-pub fn kerb_outline(
-    points: &[i32],
-    n: usize,
-    m: usize,
-    grade: u32,
-    y: Style,
-    own: &mut [i32],
-    s: &mut [u8],
-) -> usize
-    requires n_value { (n ≡ length (kerb_path y.radius points.now)) × Within grade (kerb_path y.radius points.now) × Radius y.radius × (piece_numbers ≤ length own.old) }
-    requires m_value { m ≡ length (kerb_edges grade y (kerb_path y.radius points.now)) }
-    ensures { Runs put four_bytes s.old 0 (outline_words (Kerb y) grade [] (kerb_path y.radius points.now)) s.new result }
-{
-    put_header(s, y, grade, n as u32, m as u32);
-    let table = put_points(points, n, y, s);
-    if n == 0 {
-        return put_none(s, table);
+impl KerbPlan<'_> {
+    // The entries of the table: the points.
+    fn put_points(&self, s: &mut [u8]) -> usize
+        ensures { Runs put four_bytes s.old 32 (spread point_words (kerb_path self.now.style.radius self.now.points.now)) s.new result }
+    {
+        let mut at = KERB_HEADER;
+        for k in 0..self.n {
+            let v = point(self.points, self.style, k);
+            let a = put_word(s, at, wide_bits(v.x));
+            at = put_word(s, a, wide_bits(v.y));
+        }
+        at
     }
-    if y.radius <= 1 {
-        return put_none(s, table);
+
+    // The next piece: its count, if that is due, and its edges, which stand in `own` on their way.
+    fn fill_piece(&self, t: Vector, f: KerbFilling, own: &mut [i32], s: &mut [u8]) -> KerbFilling
+        requires lent { Lent self.now.style self.now.points.now self.now.n × UnitLong t × (piece_numbers ≤ length own.old) × Touring self.now.style (first_of (kerb_path self.now.style.radius self.now.points.now)) (way_of self.now.style (kerb_path self.now.style.radius self.now.points.now)) f.tour }
+        requires room { (done_of f.tour.phase ≡ false) × TourRoom t self.now.style (kerb_path self.now.style.radius self.now.points.now) f.tour f.count f.table f.bodies }
+        ensures { PieceFills t self.now.style (kerb_path self.now.style.radius self.now.points.now) s.old f s.new result }
+    {
+        let pen = Pen {
+            step: t,
+            folds: false,
+        };
+        let p = piece(self.points, self.n, self.style, f.tour, pen, own, 0);
+        let c = put_count(s, f.table, p.ends, f.count + p.at / 4);
+        let bodies = put_numbers(own, p.at, s, f.bodies);
+        KerbFilling {
+            tour: p.tour,
+            count: c.count,
+            table: c.table,
+            bodies,
+        }
     }
-    let base = KERB_LEAST + KERB_ENTRY * n;
-    let start = KerbFilling {
-        tour: first_tour(points, n, y),
-        count: 0,
-        table,
-        bodies: base,
-    };
-    fill_tour(points, n, y, step(grade), start, own, s)
+
+    // Every piece from a place on.
+    fn fill_tour(&self, t: Vector, start: KerbFilling, own: &mut [i32], s: &mut [u8]) -> usize
+        requires lent { Lent self.now.style self.now.points.now self.now.n × UnitLong t × (piece_numbers ≤ length own.old) × Touring self.now.style (first_of (kerb_path self.now.style.radius self.now.points.now)) (way_of self.now.style (kerb_path self.now.style.radius self.now.points.now)) start.tour }
+        requires room { TourRoom t self.now.style (kerb_path self.now.style.radius self.now.points.now) start.tour start.count start.table start.bodies × Apart start.table (counts_ahead t self.now.style (kerb_path self.now.style.radius self.now.points.now) start.count start.tour) start.bodies (words_ahead t self.now.style (kerb_path self.now.style.radius self.now.points.now) start.tour) }
+        ensures { Both s.old start.table (counts_ahead t self.now.style (kerb_path self.now.style.radius self.now.points.now) start.count start.tour) start.bodies (words_ahead t self.now.style (kerb_path self.now.style.radius self.now.points.now) start.tour) s.new result }
+    {
+        let mut f = start;
+        while !f.tour.done() {
+            f = self.fill_piece(t, f, own, s);
+        }
+        f.bodies
+    }
+
+    // The outline of the kerb, which has m edges.
+    pub fn outline(&self, m: usize, own: &mut [i32], s: &mut [u8]) -> usize
+        requires room { piece_numbers ≤ length own.old }
+        requires edges { m ≡ length (kerb_edges self.now.grade self.now.style (kerb_path self.now.style.radius self.now.points.now)) }
+        ensures { Runs put four_bytes s.old 0 (outline_words (Kerb self.now.style) self.now.grade [] (kerb_path self.now.style.radius self.now.points.now)) s.new result }
+    {
+        put_header(s, self.style, self.grade, self.n as u32, m as u32);
+        let table = self.put_points(s);
+        if self.n == 0 || self.style.radius <= 1 {
+            return put_none(s, table);
+        }
+        let start = KerbFilling {
+            tour: first_tour(self.points, self.n, self.style),
+            count: 0,
+            table,
+            bodies: KERB_LEAST + KERB_ENTRY * self.n,
+        };
+        self.fill_tour(step(self.grade), start, own, s)
+    }
 }

@@ -1,7 +1,5 @@
 // A kerb's outline written into lent bytes: counted, held against the room, filled in, with zeros up to an old end.
 ghost use Rattle.std.specs.Prelude.{◌≡◌, [], ◌≤◌, length};
-ghost use Rattle.turning.specs.Bounds.{Radius};
-ghost use Rattle.paths.specs.Paths.{Within};
 ghost use Rattle.kerb.specs.Kerbs.{kerb_edges};
 ghost use Rattle.kerb_paths.specs.Points.{kerb_path};
 ghost use Rattle.outline.specs.Outlines.{outline_bytes};
@@ -9,66 +7,64 @@ ghost use Rattle.outline.specs.declared.Form.TheVariants.{Kerb};
 ghost use Rattle.kerb_outline.specs.Remaining.{piece_numbers};
 ghost use Rattle.keeping.specs.Rewriting.{Writes, Rewrites};
 
-use crate::filling::kerb_outline;
-use keeping::Kept;
-use keeping::rewriting::clear;
-use kerb::Style;
+use crate::filling::KerbPlan;
+use keeping::rewriting::{Outlined, rewrite, write};
 use kerb_paths::pieces::kerb_edges;
 use outline::Form;
-use outline::layout::whole_length;
 use replies::Refusal;
-use replies::path_rows::without_edges;
 
-// How many edges a kerb has: the tour over a few numbers of scratch counts.
-pub fn count_kerb(points: &[i32], n: usize, grade: u32, y: Style) -> usize
-    requires { (n ≡ length (kerb_path y.radius points.now)) × Within grade (kerb_path y.radius points.now) × Radius y.radius }
-    ensures { result ≡ length (kerb_edges grade y (kerb_path y.radius points.now)) }
-{
-    let mut scratch = [0i32; 4];
-    kerb_edges(points, n, grade, y, &mut scratch) / 4
+impl KerbPlan<'_> {
+    // How many edges the kerb has: the tour over a few numbers of scratch counts.
+    pub fn count(&self) -> usize
+        ensures { result ≡ length (kerb_edges self.now.grade self.now.style (kerb_path self.now.style.radius self.now.points.now)) }
+    {
+        let mut scratch = [0i32; 4];
+        kerb_edges(self.points, self.n, self.grade, self.style, &mut scratch) / 4
+    }
+
+    // The outline, of m edges, none too, over lent bytes that hold it and in which an old one ends at `old`.
+    pub fn write(&self, m: usize, old: usize, own: &mut [i32], s: &mut [u8]) -> usize
+        requires room { piece_numbers ≤ length own.old }
+        requires edges { m ≡ length (kerb_edges self.now.grade self.now.style (kerb_path self.now.style.radius self.now.points.now)) }
+        requires fits { (length (outline_bytes (Kerb self.now.style) self.now.grade [] (kerb_path self.now.style.radius self.now.points.now)) ≤ length s.old) × (old ≤ length s.old) }
+        ensures { Writes s.old (outline_bytes (Kerb self.now.style) self.now.grade [] (kerb_path self.now.style.radius self.now.points.now)) old result s.new }
+    {
+        write(self, m, old, own, s)
+    }
+
+    // The outline over lent bytes in which an old one ends at `old`, where it has edges and there is room.
+    pub fn rewrite(&self, old: usize, own: &mut [i32], s: &mut [u8]) -> Result<usize, Refusal>
+        requires { (piece_numbers ≤ length own.old) × (old ≤ length s.old) }
+        ensures { Rewrites s.old (Kerb self.now.style) self.now.grade [] (kerb_path self.now.style.radius self.now.points.now) old result s.new }
+    {
+        rewrite(self, old, own, s)
+    }
 }
 
-// The outline of a kerb of m edges, none too, over lent bytes that hold it and in which an old one ends at `old`.
-pub fn write_kerb(
-    points: &[i32],
-    n: usize,
-    m: usize,
-    grade: u32,
-    y: Style,
-    old: usize,
-    own: &mut [i32],
-    s: &mut [u8],
-) -> usize
-    requires n_value { (n ≡ length (kerb_path y.radius points.now)) × Within grade (kerb_path y.radius points.now) × Radius y.radius × (piece_numbers ≤ length own.old) }
-    requires m_value { (m ≡ length (kerb_edges grade y (kerb_path y.radius points.now))) × (length (outline_bytes (Kerb y) grade [] (kerb_path y.radius points.now)) ≤ length s.old) × (old ≤ length s.old) }
-    ensures { Writes s.old (outline_bytes (Kerb y) grade [] (kerb_path y.radius points.now)) old result s.new }
-{
-    let end = kerb_outline(points, n, m, grade, y, own, s);
-    clear(s, end, old);
-    end
-}
+impl Outlined for KerbPlan<'_> {
+    ghost form_of = { λ p. Kerb p.style };
 
-// The outline of a kerb that passed its rows, over lent bytes in which an old one ends at `old`, where it has edges and there is room.
-pub fn rewrite_kerb(
-    points: &[i32],
-    n: usize,
-    grade: u32,
-    y: Style,
-    old: usize,
-    own: &mut [i32],
-    s: &mut [u8],
-) -> Kept
-    requires { (n ≡ length (kerb_path y.radius points.now)) × Within grade (kerb_path y.radius points.now) × Radius y.radius × (piece_numbers ≤ length own.old) × (old ≤ length s.old) }
-    ensures { Rewrites s.old (Kerb y) grade [] (kerb_path y.radius points.now) old result s.new }
-{
-    let m = count_kerb(points, n, grade, y);
-    let needed = whole_length(Form::Kerb(y), n, m);
-    let empty = without_edges(n, m);
-    if empty {
-        return Kept::Refused(Refusal::WithoutEdges(n));
+    ghost grade_of = { λ p. p.grade };
+
+    ghost posts_of = { λ _. [] };
+
+    ghost vertices_of = { λ p. kerb_path p.style.radius p.points.now };
+
+    ghost needs = { λ _. piece_numbers };
+
+    fn form(&self) -> Form {
+        Form::Kerb(self.style)
     }
-    if s.len() < needed {
-        return Kept::Refused(Refusal::NoRoom(needed));
+
+    fn vertices(&self) -> usize {
+        self.n
     }
-    Kept::Bytes(write_kerb(points, n, m, grade, y, old, own, s))
+
+    fn edges(&self) -> usize {
+        self.count()
+    }
+
+    fn fill_in(&self, m: usize, own: &mut [i32], s: &mut [u8]) -> usize {
+        self.outline(m, own, s)
+    }
 }

@@ -46,15 +46,12 @@ pub fn piece(
     requires room { Room edge_numbers at (piece_of pen.step y (way_of y (kerb_path y.radius points.now)) w) }
     ensures { Pieces pen y (kerb_path y.radius points.now) w out.old at out.new result }
 {
-    let m = way_count(n, y);
     let first = point(points, y, 0);
-    let k = w.next;
-    let b = ahead(points, y, n, k);
-    let more = k < m;
+    let b = ahead(points, y, n, w.next);
+    let more = w.next < way_count(n, y);
     let s = w.step(out, at, pen, y, first, more, b);
-    let tour = s.tour;
     Pieced {
-        tour: tour,
+        tour: s.tour,
         at: s.at,
         ends: w.ends(more),
     }
@@ -72,6 +69,7 @@ fn walk(points: &[i32], n: usize, y: Style, t: Vector, out: &mut [i32]) -> usize
     };
     let mut w = first_tour(points, n, y);
     let mut at: usize = 0;
+    // no count: a tour ends where its phase does
     while !w.done() {
         let s = piece(points, n, y, w, pen, out, at);
         w = s.tour;

@@ -1,4 +1,5 @@
 -- The rows of a kerb, one law for each outcome of its tests; and what its edges come to. Assumes nothing.
+use Rattle.std.specs.Prelude.{Result, Ok, Err}
 use mathlib.Core.Path.{◌≡◌, refl, sym, ap, ◌∙◌}
 use mathlib.Core.Bool.{true, false, not}
 use mathlib.Core.List.{List, [], ◌∷◌, ◌++◌}
@@ -24,11 +25,9 @@ use Rattle.replies.specs.declared.Refusal.TheVariants.{Uneven, TooMany, Grade, O
 use Rattle.replies.proofs.Rows.{NoneHold, first_skip, none_last, rows_append, grade_drawn, grade_retired, grade_above}
 use Rattle.replies.proofs.StyleFaults.{faultless}
 use Rattle.kerb_rows.specs.KerbRows.{pairs_row, kerb_rows, kerb_due, KerbFits, or_kerb, KerbSays}
-use Rattle.kerb_rows.specs.declared.KerbCheck.{KerbCheck}
-use Rattle.kerb_rows.specs.declared.KerbCheck.TheVariants.{Passed, Refused}
 
 -- a refusal is no pass
-refused_not : (r : Refusal) (n : ℕ) → Refused r ≡ Passed n → ⊥
+refused_not : (r : Refusal) (n : ℕ) → ◌≡◌ {A = Result ℕ Refusal} (Err r) (Ok n) → ⊥
 refused_not r n e = let z : ◌≡◌ {A = ℕ} 0 1 = cc in omega arith
 
 -- a row that holds, after rows of which none does
@@ -53,45 +52,45 @@ module _ (l : List ℤ) (g r j c : ℕ) where
 
   -- ---- the first that holds
 
-  refused : (x : Refusal) → ((more : Reply) → first_row (kerb_rows l g r j c) more ≡ refusal_of x) → KerbSays l g r j c (Refused x)
+  refused : (x : Refusal) → ((more : Reply) → first_row (kerb_rows l g r j c) more ≡ refusal_of x) → KerbSays l g r j c (Err x)
   unfolding or_kerb
   refused x h = record { says = h; fits = λ n e. absurd (refused_not x n e) }
 
-  pub odd_count : (length l % 2 ≡ 0 → ⊥) → KerbSays l g r j c (Refused (Uneven (length l)))
-  unfolding kerb_rows pairs_row refusal_of
+  pub odd_count : (length l % 2 ≡ 0 → ⊥) → KerbSays l g r j c (Err (Uneven (length l)))
+  unfolding kerb_rows pairs_row
   odd_count h = refused (Uneven (length l)) (λ more. first_holds [] _ _ more tt (ap not (ne_eqb (length l % 2) 0 h)))
 
   module _ (h₁ : length l % 2 ≡ 0) where
-    pub grade_under : g < 2 → KerbSays l g r j c (Refused (Grade g))
-    unfolding kerb_rows draw_grade_row refusal_of
+    pub grade_under : g < 2 → KerbSays l g r j c (Err (Grade g))
+    unfolding kerb_rows draw_grade_row
     grade_under h = refused (Grade g) (λ more. first_holds (pairs_row l ∷ []) (draw_grade_row g) _ more (even h₁, tt) (grade_retired h))
 
     module _ (low : 2 ≤ g) where
-      pub grade_over : 8 < g → KerbSays l g r j c (Refused (Grade g))
-      unfolding kerb_rows draw_grade_row refusal_of
+      pub grade_over : 8 < g → KerbSays l g r j c (Err (Grade g))
+      unfolding kerb_rows draw_grade_row
       grade_over h = refused (Grade g) (λ more. first_holds (pairs_row l ∷ []) (draw_grade_row g) _ more (even h₁, tt) (grade_above low h))
 
       module _ (high : g ≤ 8) where
-        pub style_out : {i : ℕ} → i ≡ style_fault r j c → 0 < i → KerbSays l g r j c (Refused (StyleWord i))
-        unfolding kerb_rows style_row refusal_of
+        pub style_out : {i : ℕ} → i ≡ style_fault r j c → 0 < i → KerbSays l g r j c (Err (StyleWord i))
+        unfolding kerb_rows style_row
         style_out {i} e h = refused (StyleWord i)
             (λ more. first_holds (pairs_row l ∷ draw_grade_row g ∷ []) (style_row r j c) _ more (even h₁, (grade_drawn low high, tt)) (lt-ltb 0 (style_fault r j c) (omega (arith, e, h))) ∙ ap (λ (n : ℕ). (11, n)) (sym e))
 
         module _ (hs : style_fault r j c ≤ 0) where
-          pub points_over : 4096 < length l / 2 → KerbSays l g r j c (Refused (TooMany (length l / 2)))
-          unfolding kerb_rows count_row refusal_of
+          pub points_over : 4096 < length l / 2 → KerbSays l g r j c (Err (TooMany (length l / 2)))
+          unfolding kerb_rows count_row
           points_over h = refused (TooMany (length l / 2))
               (λ more. first_holds (pairs_row l ∷ draw_grade_row g ∷ style_row r j c ∷ []) (count_row (length (kerb_path (pos r) l))) _ more (even h₁, (grade_drawn low high, (styled hs, tt))) (lt-ltb 4096 (length (kerb_path (pos r) l)) (omega (arith, point_count (pos r) l, h))) ∙ ap (λ (n : ℕ). (2, n)) (point_count (pos r) l))
 
           module _ (few : length l / 2 ≤ 4096) where
-            pub point_outside : {i : ℕ} → i ≡ first_outside (kerb_path (pos r) l) → i < length l / 2 → KerbSays l g r j c (Refused (Outside i))
-            unfolding kerb_rows outside_row refusal_of
+            pub point_outside : {i : ℕ} → i ≡ first_outside (kerb_path (pos r) l) → i < length l / 2 → KerbSays l g r j c (Err (Outside i))
+            unfolding kerb_rows outside_row
             point_outside {i} e h =
                 let vs = kerb_path (pos r) l in
                 refused (Outside i)
                 (λ more. first_holds (pairs_row l ∷ draw_grade_row g ∷ style_row r j c ∷ count_row (length vs) ∷ []) (outside_row vs) [] more (even h₁, (grade_drawn low high, (styled hs, (counted few, tt)))) (lt-ltb (first_outside vs) (length vs) (omega (arith, e, point_count (pos r) l, h))) ∙ ap (λ (n : ℕ). (4, n)) (sym e))
 
-            pub kerb_passes : {i : ℕ} → i ≡ first_outside (kerb_path (pos r) l) → length l / 2 ≤ i → KerbSays l g r j c (Passed (length l / 2))
+            pub kerb_passes : {i : ℕ} → i ≡ first_outside (kerb_path (pos r) l) → length l / 2 ≤ i → KerbSays l g r j c (Ok (length l / 2))
             unfolding kerb_rows outside_row or_kerb
             kerb_passes {i} e h =
                 let vs = kerb_path (pos r) l in
@@ -118,10 +117,9 @@ within_passes l {g} {r} {j} {c} h low s w =
     (kerb_passes l g r j c h low w.high (omega (arith, s)) (omega (arith, point_count (pos r) l, w.count)) {i = first_outside (kerb_path (pos r) l)} refl (omega (arith, e))).fits _ refl
 
 -- whatever further rows say, a refusal of the kerb's rows is the reply
-pub kerb_refuses : (l : List ℤ) {g r j c : ℕ} {k : KerbCheck} {x : Refusal} (more : List Row) (last : Reply) → KerbSays l g r j c k → k ≡ Refused x → refusal_of x ≡ first_row (kerb_rows l g r j c ++ more) last
+pub kerb_refuses : (l : List ℤ) {g r j c : ℕ} {x : Refusal} (more : List Row) (last : Reply) → KerbSays l g r j c (Err x) → refusal_of x ≡ first_row (kerb_rows l g r j c ++ more) last
 unfolding or_kerb
-kerb_refuses l {g} {r} {j} {c} {k} more last s e =
-    sym (rows_append (kerb_rows l g r j c) more last ∙ s.says (first_row more last) ∙ ap (λ (x : KerbCheck). or_kerb x (first_row more last)) e)
+kerb_refuses l {g} {r} {j} {c} more last s = sym (rows_append (kerb_rows l g r j c) more last ∙ s.says (first_row more last))
 
 -- ---- the points with the style's radius: y is the style as the code has it
 

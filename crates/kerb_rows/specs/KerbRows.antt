@@ -1,5 +1,5 @@
 -- Document 02, request 3: the rows of a kerb, and what a check of them says.
-use Rattle.std.specs.Prelude.{◌≡◌, not, List, [], ◌∷◌, ℕ, ◌%◌, ◌≤◌, eqb, ℤ, pos, length}
+use Rattle.std.specs.Prelude.{◌≡◌, not, List, [], ◌∷◌, ℕ, ◌%◌, ◌≤◌, eqb, ℤ, pos, length, Result, Ok, Err}
 use Rattle.turning.specs.declared.Edge.{Edge}
 use Rattle.kerb.specs.Kerbs.{kerb_edges}
 use Rattle.kerb.specs.Styles.{style_of}
@@ -8,8 +8,7 @@ use Rattle.paths.specs.Paths.{Within}
 use Rattle.replies.specs.Replies.{Reply, Row, first_row, draw_grade_row, count_row, outside_row}
 use Rattle.replies.specs.StyleRows.{style_row}
 use Rattle.replies.specs.Refusals.{refusal_of}
-use Rattle.kerb_rows.specs.declared.KerbCheck.{KerbCheck}
-use Rattle.kerb_rows.specs.declared.KerbCheck.TheVariants.{Passed, Refused}
+use Rattle.replies.specs.declared.Refusal.{Refusal}
 
 -- 1, an odd count: how many numbers.
 unfoldable pub pairs_row : List ℤ → Row
@@ -33,10 +32,10 @@ pub record KerbFits (l : List ℤ) (g r j c n : ℕ) : Type 0 where
   pub passed : (more : Reply) → first_row (kerb_rows l g r j c) more ≡ more
 
 -- a refusal's reply, or what further rows say
-unfoldable pub or_kerb : KerbCheck → Reply → Reply
-or_kerb (Refused r) more = refusal_of r
-or_kerb (Passed n) more = more
+unfoldable pub or_kerb : Result ℕ Refusal → Reply → Reply
+or_kerb (Err r) more = refusal_of r
+or_kerb (Ok n) more = more
 
-pub record KerbSays (l : List ℤ) (g r j c : ℕ) (answer : KerbCheck) : Type 0 where
+pub record KerbSays (l : List ℤ) (g r j c : ℕ) (answer : Result ℕ Refusal) : Type 0 where
   pub says : (more : Reply) → first_row (kerb_rows l g r j c) more ≡ or_kerb answer more
-  pub fits : (n : ℕ) → answer ≡ Passed n → KerbFits l g r j c n
+  pub fits : (n : ℕ) → answer ≡ Ok n → KerbFits l g r j c n

@@ -1,45 +1,59 @@
 // The rows that drawing and keeping a kerb share: are these points, a grade, a style and vertices within the limits?
 #![tactic(auto)]
 
+ghost use Rattle.std.specs.Prelude.{◌≡◌};
+ghost use Rattle.kerb.specs.Styles.{style_of};
 ghost use Rattle.kerb_rows.specs.KerbRows.{KerbSays};
 
+use kerb::Style;
 use kerb::styles::style_of;
 use kerb_paths::points::first_outside;
 use replies::Refusal;
 use replies::style_rows::style_fault;
 
-// What the rows of a kerb came to: how many points it has, or why it is refused.
+// A kerb as it is lent: its points, two numbers each, a grade, and the three numbers of its style.
 #[derive(Clone, Copy)]
-pub enum KerbCheck {
-    Passed(usize),
-    Refused(Refusal),
+pub struct LentKerb<'a> {
+    pub points: &'a [i32],
+    pub grade: u32,
+    pub radius: u32,
+    pub join: u32,
+    pub closed: u32,
 }
 
-// Every row of a kerb, in order.
-pub fn check_kerb(points: &[i32], grade: u32, radius: u32, join: u32, closed: u32) -> KerbCheck
-    ensures { KerbSays points.now grade radius join closed result }
-{
-    let m = points.len();
-    if m % 2 != 0 {
-        return KerbCheck::Refused(Refusal::Uneven(m));
+impl LentKerb<'_> {
+    // Its style.
+    pub fn style(&self) -> Style
+        ensures { result ≡ style_of self.now.radius self.now.join self.now.closed }
+    {
+        style_of(self.radius, self.join, self.closed)
     }
-    if grade < 2 {
-        return KerbCheck::Refused(Refusal::Grade(grade));
+
+    // Every row of a kerb, in order: how many points it has, or why it is refused.
+    pub fn check(&self) -> Result<usize, Refusal>
+        ensures { KerbSays self.now.points.now self.now.grade self.now.radius self.now.join self.now.closed result }
+    {
+        let m = self.points.len();
+        if m % 2 != 0 {
+            return Err(Refusal::Uneven(m));
+        }
+        if self.grade < 2 {
+            return Err(Refusal::Grade(self.grade));
+        }
+        if 8 < self.grade {
+            return Err(Refusal::Grade(self.grade));
+        }
+        if let Some(place) = style_fault(self.radius, self.join, self.closed) {
+            return Err(Refusal::StyleWord(place));
+        }
+        let n = m / 2;
+        if 4096 < n {
+            return Err(Refusal::TooMany(n));
+        }
+        let bad = first_outside(self.points, self.style(), n);
+        if bad < n {
+            return Err(Refusal::Outside(bad));
+        }
+        Ok(n)
     }
-    if 8 < grade {
-        return KerbCheck::Refused(Refusal::Grade(grade));
-    }
-    let fault = style_fault(radius, join, closed);
-    if 0 < fault {
-        return KerbCheck::Refused(Refusal::StyleWord(fault));
-    }
-    let n = m / 2;
-    if 4096 < n {
-        return KerbCheck::Refused(Refusal::TooMany(n));
-    }
-    let bad = first_outside(points, style_of(radius, join, closed), n);
-    if bad < n {
-        return KerbCheck::Refused(Refusal::Outside(bad));
-    }
-    KerbCheck::Passed(n)
 }

@@ -2,8 +2,7 @@
 use mathlib.Core.Path.{◌≡◌, refl, sym, ap, ◌∙◌}
 use mathlib.Core.Bool.{Bool, true, false, ◌&&◌}
 use mathlib.Core.List.{List, ◌++◌}
-use Prim.Native.Nat.{ℕ, zero, suc, ◌+◌, ◌*◌, ◌/◌, ◌^◌, ◌≤◌, ◌<◌}
-use native.Mathlib.Nat.{mul-le-mul_right, div-lt_iff_lt-mul}
+use Prim.Native.Nat.{ℕ, zero, suc, ◌+◌, ◌*◌, ◌^◌, ◌≤◌, ◌<◌}
 use native.Mathlib.Omega.{arith}
 use borrow.Author.Tests.{leb-true}
 use lib.Dec.{leb}
@@ -35,14 +34,6 @@ use Rattle.turning.proofs.Stored.{edges_past}
 use Rattle.turning.proofs.Rays.{same_is}
 
 -- ---- how far is far enough
-
-pub far_none : (r : ℕ) → r ≡ 0 → Far r (2 ^ 32)
-far_none r e = record { far = λ n h k. absurd (omega arith) }
-
-pub far_some : (r : ℕ) → 0 < r → Far r (2 ^ 30 / r + 1)
-far_some r h =
-    let above : 2 ^ 30 < (2 ^ 30 / r + 1) * r = (div-lt_iff_lt-mul {k = r} {x = 2 ^ 30} {y = 2 ^ 30 / r + 1} h).0 (omega arith) in
-    record { far = λ n k l. omega (arith, above, mul-le-mul_right r k) }
 
 -- ---- numbers that are rounded to one lie no farther apart than the divisor
 
@@ -145,15 +136,6 @@ some_left : (r : ℕ) → (r ≡ 0 → ⊥) → 0 < r
 some_left zero h = absurd (h refl)
 some_left (suc r) h = omega arith
 
--- r is the radius's size
-pub far_told : (s : ℤ) {r : ℕ} → Radius s → r ≡ nat_abs (bits s) → (r ≡ 0 → ⊥) → Far (nat_abs s) (2 ^ 30 / r + 1)
-far_told s {r} k e h =
-    let f : r ≡ nat_abs s = e ∙ ap nat_abs (radius_back k) in
-    rw (← f) (far_some r (some_left r h))
-
-pub far_zero : (s : ℤ) {r : ℕ} → Radius s → r ≡ nat_abs (bits s) → r ≡ 0 → Far (nat_abs s) (2 ^ 32)
-far_zero s {r} k e h = far_none (nat_abs s) (sym (e ∙ ap nat_abs (radius_back k)) ∙ h)
-
 pub far_back : (s : ℤ) {l : ℕ} → Radius s → Far (nat_abs (bits s)) l → Far (nat_abs s) l
 far_back s k f = rw (radius_back k) at f
 
@@ -168,9 +150,6 @@ same_places r d e k f g h = h ∙ (λ i. same_point (point_is r.centre d k f i) 
 pub last_size : (r : Turning) (d : Vector) {q : Point} {b : Bool} → Radius r.radius → q ≡ scaled_of r.centre (bits r.radius) d → b ≡ same_point q r.to
     → length (spread edge_numbers (edge_of (place_of r d) r.to)) ≡ edge_size b
 last_size r d k f h = edge_size_lem (place_of r d) r.to (h ∙ ap (λ p. same_point p r.to) (point_is r.centre d k f))
-
-pub gap_size : (a b : ℤ) {n : ℕ} → Size (2 ^ 30) a → Size (2 ^ 30) b → n ≡ nat_abs (bits (bits a -ℤ bits b)) → n ≡ nat_abs (a -ℤ b)
-gap_size a b h k e = rw (back (short_fits h), back (short_fits k), back (gap_fits h k)) at e
 
 -- ---- a count: from the position n the edges es are still to come, as from m the edges fs were
 

@@ -1,20 +1,20 @@
 -- Rounding keeps the order, so a coordinate lies between those of the lowest and the highest component. Assumes nothing.
 use mathlib.Core.Path.{◌≡◌, refl, sym, ap, ◌∙◌}
 use mathlib.Core.Bool.{Bool, true, false, ◌&&◌, true≢false}
-use Prim.Native.Nat.{ℕ, suc, ◌+◌, ◌-◌, ◌^◌, ◌≤◌, ◌<◌}
+use Prim.Native.Nat.{ℕ, suc, ◌+◌, ◌^◌, ◌≤◌, ◌<◌}
 use native.Mathlib.Nat.{mul-le-mul_right, add-mul}
 use native.Mathlib.Omega.{arith}
 use borrow.Author.Tests.{eqb-true}
 use lib.Dec.{eqb}
-use lib.IntN.{ℤ, pos, negsuc, neg_ℤ, nat_abs, ◌+ℤ◌, ◌-ℤ◌, ◌*ℤ◌}
+use lib.IntN.{ℤ, pos, negsuc, nat_abs, ◌+ℤ◌, ◌-ℤ◌, ◌*ℤ◌}
 use lib.Signed.{mag, lt_z, ◌≤ℤ◌}
 use mir.Syntax.{w64}
 use mir.Val.{SFits, to_z, of_z}
 use mir.Facts.{to_z_pos}
 use Rattle.whole.specs.Sizes.{Size}
-use Rattle.whole.proofs.Signed.{up, down, ext, abs_is, le_from, le_to, add_balance, up-neg, down-neg, up-mul, down-mul}
+use Rattle.whole.proofs.Signed.{up, down, ext, le_from, le_to, add_balance, up-neg, down-neg, up-mul, down-mul}
 use Rattle.whole.proofs.Sizes.{size_add, size_fits}
-use Rattle.whole.proofs.Order.{lt_true, lt_false}
+use Rattle.whole.proofs.Order.{lt_true}
 use Rattle.whole.proofs.Squares.{square_le}
 use Rattle.number.specs.MulDiv.{nearest_of, rounded_of, mul_div_of}
 use Rattle.plane.specs.Vectors.{same_number, same_point, square_of}
@@ -90,52 +90,8 @@ module _ {a : ℤ} {off : ℕ} (h : Size (2 ^ 30) a) (k : off ≤ 2 ^ 20) where
   pub less_fits : SFits w64 (bits a -ℤ to_z w64 off)
   less_fits = rw (back (short_fits h), natural) (gap_fits h off_size)
 
-  pub less_back : bits (bits a -ℤ to_z w64 off) ≡ a -ℤ pos off
-  less_back = rw (back (short_fits h), natural) (back (gap_fits h off_size))
-
   sum_fits : SFits w64 (a +ℤ pos off)
   sum_fits = size_fits (2 ^ 31) w64 _ (size_add (2 ^ 30) (2 ^ 30) a (pos off) h off_size) tt
-
-  pub more_fits : SFits w64 (bits a +ℤ to_z w64 off)
-  more_fits = rw (back (short_fits h), natural) sum_fits
-
-  pub more_back : bits (bits a +ℤ to_z w64 off) ≡ a +ℤ pos off
-  more_back = rw (back (short_fits h), natural) (back sum_fits)
-
-pub lowest_cut : {a : ℤ} {off : ℕ} → Lowest a off (negsuc (2 ^ 30 - 1))
-lowest_cut = record { size = record { size = omega arith }; below = λ z h k. le_from (negsuc (2 ^ 30 - 1)) z (omega (arith, abs_is z, h.size)) }
-
-pub highest_cut : {a : ℤ} {off : ℕ} → Highest a off (pos (2 ^ 30))
-highest_cut = record { size = record { size = omega arith }; above = λ z h k. le_from z (pos (2 ^ 30)) (omega (arith, abs_is z, h.size)) }
-
--- m is a less off, and not cut
-less_size : (a : ℤ) (off : ℕ) (m : ℤ) → Size (2 ^ 30) a → m ≡ a -ℤ pos off → lt_z m (negsuc (2 ^ 30 - 1)) ≡ false → nat_abs m ≤ 2 ^ 30
-less_size a off (pos n) h e t = omega (arith, ap up e, ap down e, add_balance a (neg_ℤ (pos off)), up-neg (pos off), down-neg (pos off), abs_is a, h.size)
-less_size a off (negsuc n) h e t = omega (arith, lt_false (negsuc n) (negsuc (2 ^ 30 - 1)) t)
-
-kept_low : (a : ℤ) (off : ℕ) (m : ℤ) → Size (2 ^ 30) a → m ≡ a -ℤ pos off → lt_z m (negsuc (2 ^ 30 - 1)) ≡ false → Lowest a off m
-kept_low a off m h e t = record {
-  size = record { size = less_size a off m h e t };
-  below = λ z k l. le_from m z (omega (arith, ap up e, ap down e, add_balance a (neg_ℤ (pos off)), up-neg (pos off), down-neg (pos off), add_balance z (neg_ℤ a), up-neg a, down-neg a, abs_is (z -ℤ a), l));
-}
-
--- m is a and off, and not cut
-more_size : (a : ℤ) (off : ℕ) (m : ℤ) → Size (2 ^ 30) a → m ≡ a +ℤ pos off → lt_z (pos (2 ^ 30)) m ≡ false → nat_abs m ≤ 2 ^ 30
-more_size a off (pos n) h e t = omega (arith, lt_false (pos (2 ^ 30)) (pos n) t)
-more_size a off (negsuc n) h e t = omega (arith, ap up e, ap down e, add_balance a (pos off), abs_is a, h.size)
-
-kept_high : (a : ℤ) (off : ℕ) (m : ℤ) → Size (2 ^ 30) a → m ≡ a +ℤ pos off → lt_z (pos (2 ^ 30)) m ≡ false → Highest a off m
-kept_high a off m h e t = record {
-  size = record { size = more_size a off m h e t };
-  above = λ z k l. le_from z m (omega (arith, ap up e, ap down e, add_balance a (pos off), add_balance z (neg_ℤ a), up-neg a, down-neg a, abs_is (z -ℤ a), l));
-}
-
--- from what the code has computed on bits: m is the sum or the difference
-pub lowest_kept : (a : ℤ) {off : ℕ} {m : ℤ} → Size (2 ^ 30) a → mag m < 2 ^ 63 → m ≡ bits a -ℤ pos off → lt_z (bits m) (negsuc (2 ^ 30 - 1)) ≡ false → Lowest a off (bits m)
-lowest_kept a {off} {m} h k e t = kept_low a off (bits m) h (told k (rw (back (short_fits h)) at e)) t
-
-pub highest_kept : (a : ℤ) {off : ℕ} {m : ℤ} → Size (2 ^ 30) a → mag m < 2 ^ 63 → m ≡ bits a +ℤ pos off → lt_z (pos (2 ^ 30)) (bits m) ≡ false → Highest a off (bits m)
-highest_kept a {off} {m} h k e t = kept_high a off (bits m) h (told k (rw (back (short_fits h)) at e)) t
 
 -- ---- a coordinate
 
@@ -157,7 +113,7 @@ module _ (c r a to : ℤ) {off : ℕ} (hc : Size (2 ^ 28) c) (hr : Radius r) (ha
         let g : Lowest a off l = rw (back (short_fits ha)) at h in
         rw (coordinate_back c r hc hr h.size k e) (placed_monotone c l z hr (g.below z i j))
 
-    pub passes_low : lt_z (bits to) (bits p) ≡ true → Passes c r a off to true
+    pub passes_low : {y : Bool} → lt_z (bits to) (bits p) ≡ true → Passes c r a off to y
     passes_low t =
         let s : lt_z to (bits p) ≡ true = rw (back ht) at t in
         record { passes = λ u z i j. differ (c +ℤ mul_div_of z r (2 ^ 30)) to (λ f. omega (arith, lt_true to (bits p) s, le_to (lowest_most z i j), ap up f, ap down f)) }
@@ -186,8 +142,8 @@ module _ (c r a to : ℤ) {off : ℕ} (hc : Size (2 ^ 28) c) (hr : Radius r) (ha
         rw n (same_self to);
   }
 
-pub meets_none : {c r a to : ℤ} {off : ℕ} → Meets c r a off to false
-meets_none = record { meets = λ t. absurd (true≢false (sym t)) }
+pub meets_none : {c r a to : ℤ} {off : ℕ} {t : Bool} → t ≡ false → Meets c r a off to t
+meets_none e = record { meets = λ t. absurd (true≢false (sym t ∙ e)) }
 
 -- ---- both coordinates
 
@@ -200,7 +156,7 @@ module _ {c r a to : ℤ} {off : ℕ} {t : Bool} (hc : Size (2 ^ 28) c) (hr : Ra
 
 -- from what the code has computed on bits: t tells of the first coordinates, u of the second
 module _ (r : Turning) (d : Vector) {off : ℕ} (h : Turns r) (k : UnitLong d) where
-  pub misses_x : {t : Bool} → Passes (bits r.centre.x) (bits r.radius) (bits d.x) off (bits r.to.x) t → t ≡ true → Misses r d off true
+  pub misses_x : {t y : Bool} → Passes (bits r.centre.x) (bits r.radius) (bits d.x) off (bits r.to.x) t → t ≡ true → Misses r d off y
   unfolding same_point scaled_of
   misses_x p e =
       let f = passes_back h.centre.x h.radius (unit_short k).x h.to.x p in
@@ -223,6 +179,3 @@ module _ (r : Turning) (d : Vector) {off : ℕ} (h : Turns r) (k : UnitLong d) w
       let f = meets_back h.centre.x h.radius (unit_short k).x h.to.x p in
       let g = meets_back h.centre.y h.radius (unit_short k).y h.to.y q in
       record { hits = λ s v i j. λ x. f.meets e v.x (unit_short i).x (part_within j).0 x && g.meets s v.y (unit_short i).y (part_within j).1 x }
-
-pub hits_none : {r : Turning} {d : Vector} {off : ℕ} → Hits r d off false
-hits_none = record { hits = λ t. absurd (true≢false (sym t)) }

@@ -1,13 +1,13 @@
 -- What the tests of leaps tell: that an arc goes on, that it ends, that a direction is long and that each rotation moves its point. Assumes nothing.
 use mathlib.Core.Path.{◌≡◌, refl, sym, ap, ◌∙◌}
-use mathlib.Core.Bool.{Bool, true, false, true≢false}
+use mathlib.Core.Bool.{Bool, true, false}
 use Prim.Native.Nat.{ℕ, zero, suc, ◌+◌, ◌*◌, ◌/◌, ◌^◌, ◌≤◌, ◌<◌}
 use native.Mathlib.Nat.{add-zero, zero-mul, suc-mul, lt_of_not-le, mul-le-mul, mul-le-mul_right}
 use native.Mathlib.Decide.{dec_le}
 use native.Mathlib.Omega.{arith}
 use lib.IntN.{ℤ, pos, neg_ℤ, nat_abs, ◌-ℤ◌}
 use lib.Dec.{leb, ltb}
-use lib.Signed.{le_z, lt_z, ◌≤ℤ◌}
+use lib.Signed.{le_z, ◌≤ℤ◌}
 use borrow.Author.Tests.{leb-true, ltb-true}
 use mir.Syntax.{w64}
 use mir.Val.{SFits}
@@ -15,7 +15,7 @@ use Rattle.whole.specs.Sizes.{Size}
 use Rattle.whole.proofs.Signed.{up, down, add_balance, up-neg, down-neg, abs_is, le_from, le_to}
 use Rattle.whole.proofs.Sizes.{abs_sub, size_sub, size_fits}
 use Rattle.whole.proofs.Squares.{square_most, square_next, square_double}
-use Rattle.whole.proofs.Order.{le_true, le_false, is_neg, natural}
+use Rattle.whole.proofs.Order.{le_true, le_false}
 use Rattle.plane.specs.Vectors.{same_point, square_of, cross_of, dot_of}
 use Rattle.plane.specs.Directions.{rotated_of, UnitLong}
 use Rattle.plane.specs.OffBy.{less_of}
@@ -118,9 +118,6 @@ ends_told t e d off ht he en ew h i ey k j ez l = record {
       (near_ahead (dot_of v e) (dot_of d e) least 0 (dot_within v d e he hv) (rw (add-zero least) (rw ez at (l.ahead m))));
 }
 
-pub ends_not : (t e d : Vector) (off : ℕ) → Ends t e d off false
-ends_not t e d off = record { ends = λ g. absurd (true≢false (sym g)) }
-
 -- n is the squared length
 pub long_told : (d : Vector) (off : ℕ) {n : ℕ} → n ≡ square_of d → Long d off (leb ((7 * 2 ^ 27 + off) * (7 * 2 ^ 27 + off)) n)
 long_told d off {n} e = record { long = λ i v h. long_within (7 * 2 ^ 27) v d h (rw e at (leb-true _ n i)) }
@@ -156,20 +153,6 @@ moved_apart r v l hr ht hv f k h = go (dec_le l (nat_abs (v.x -ℤ w.x)))
 
 -- ---- from what the code has computed: w is z, m its size
 
-module _ (z : ℤ) (n : ℕ) {m : ℕ} {w : ℤ} (e : w ≡ z) where
-  pub ahead_told : le_z (pos 0) w ≡ true → m ≡ nat_abs w → Ahead z n (leb n m)
-  ahead_told h f = record { ahead = λ g. le_from (pos n) z (omega (arith, natural (le_from (pos 0) z (le_true (pos 0) z (rw e at h))), leb-true n m g, rw e at f)) }
-
-  pub behind_told : lt_z w (pos 0) ≡ true → m ≡ nat_abs w → Behind z n (leb n m)
-  behind_told h f =
-      record { behind = λ g. le_from z (neg_ℤ (pos n)) (omega (arith, is_neg z (rw e at h), leb-true n m g, rw e at f, up-neg (pos n), down-neg (pos n))) }
-
-pub ahead_not : (z : ℤ) (n : ℕ) {x : Bool} → x ≡ false → Ahead z n x
-ahead_not z n f = record { ahead = λ g. absurd (true≢false (sym g ∙ f)) }
-
-pub behind_not : (z : ℤ) (n : ℕ) {x : Bool} → x ≡ false → Behind z n x
-behind_not z n f = record { behind = λ g. absurd (true≢false (sym g ∙ f)) }
-
 -- 2 ^ 30 less a component
 pub lack_fits : {a : ℤ} → Size (2 ^ 30) a → SFits w64 (pos (2 ^ 30) -ℤ a)
 lack_fits h = size_fits (2 ^ 31) w64 _ (size_sub (2 ^ 30) (2 ^ 30) (pos (2 ^ 30)) _ (record { size = omega arith }) h) tt
@@ -203,9 +186,6 @@ moves_told r {s} {k} hr ht fine e f = record { fine = λ _. fine; moves = λ i v
         let k' : k ≡ nat_abs r.step.y = f ∙ ap nat_abs (back (short_fits (unit_short ht).y)) in
         let far : 2 ^ 30 < l * s = omega (arith, n, suc-mul l s) in
         moved_apart r v l hr ht hv (rw s' at far) (omega (arith, m, k')) h
-
-pub moves_not : (r : Turning) → Moves r false
-moves_not r = record { fine = λ g. absurd (true≢false (sym g)); moves = λ g. absurd (true≢false (sym g)) }
 
 pub step_most_lem : {t : Vector} {k : ℕ} → UnitLong t → k ≡ nat_abs (bits t.y) → k ≤ 2 ^ 30
 step_most_lem h e = let s = (unit_short h).y in omega (arith, e ∙ ap nat_abs (back (short_fits s)), s.size)

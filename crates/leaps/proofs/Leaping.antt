@@ -102,9 +102,6 @@ comes_start t e d h = record { unit = h; near = within_same d; goes = tt; turns 
 pub leads_same : {t e v : Vector} {n a : ℕ} → UnitLong v → n ≤ 1534 → a ≤ 9 * n → Leads t e n a v n a v
 leads_same h i j = record { unit = h; turns = i; off = j; comes = λ _ _ k. k }
 
-pub leads_then : {t e u v w : Vector} {n a m b k c : ℕ} → Leads t e n a u m b v → Leads t e m b v k c w → Leads t e n a u k c w
-leads_then h k = record { unit = k.unit; turns = k.turns; off = k.off; comes = λ d hd s. k.comes d hd (h.comes d hd s) }
-
 pub leads_on : (m b reach : ℕ) (t e u : Vector) {v w x : Vector} {n a k c : ℕ} {y : Bool} → Leads t e n a v k c w → Leaps t m b u → UnitLong t
     → Clears w e reach y → y ≡ true → c + m * sway_of t ≤ reach → x ≡ rotated_of u w → k + m ≤ 1534 → b + 3 ≤ 9 * m → Leads t e n a v (k + m) (c + (b + 3)) x
 leads_on m b reach t e u {w = w} {x} {k = k} {c = c} h l ht f i j g o q = record {

@@ -1,6 +1,5 @@
 // An arc's turning where its edges are only counted: a direction that moves far enough moves its point, so the points are seldom needed.
-ghost use Rattle.std.specs.Prelude.{◌≡◌, ◌+◌, ◌^◌, ◌<◌, leb, nat_abs, ◌-ℤ◌, length};
-ghost use Rattle.whole.specs.Sizes.{Size};
+ghost use Rattle.std.specs.Prelude.{◌≡◌, ◌+◌, ◌^◌, ◌<◌, nat_abs, length, IfSome};
 ghost use Rattle.runs.specs.Runs.{Room, spread};
 ghost use Rattle.plane.specs.Vectors.{same_point};
 ghost use Rattle.plane.specs.Directions.{UnitLong};
@@ -12,31 +11,23 @@ ghost use Rattle.leaps.specs.Bows.{BendsOn};
 
 use crate::landing::{hits, misses};
 use crate::leaps::{ends, leapt, long, moves};
-use number::sign::size;
 use plane::Vector;
 use plane::rotation::rotated;
-use plane::vectors::{cross, same};
+use plane::vectors::cross;
 use turning::Turning;
-use turning::turn::{point_at, stops};
+use turning::turn::{MOST_ROTATIONS, point_at, stops};
 
 // How far a component must move to move its point at the radius.
 fn least(radius: i64) -> u64
     requires { Radius radius }
     ensures { Far (nat_abs radius) result }
 {
-    let r = size(radius);
+    let r = radius.unsigned_abs();
     if r == 0 {
-        return 0x1_0000_0000;
+        0x1_0000_0000
+    } else {
+        0x4000_0000 / r + 1
     }
-    0x4000_0000 / r + 1
-}
-
-// Whether two components lie l or more apart.
-fn apart(a: i64, b: i64, l: u64) -> bool
-    requires { Size (2 ^ 30) a × Size (2 ^ 30) b }
-    ensures { result ≡ leb l (nat_abs (a -ℤ b)) }
-{
-    l <= size(a - b)
 }
 
 // Whether the points in two directions are one.
@@ -44,16 +35,9 @@ fn stays(r: Turning, d: Vector, e: Vector, l: u64) -> bool
     requires { Turns r × UnitLong d × UnitLong e × Far (nat_abs r.radius) l }
     ensures { result ≡ same_point (place_of r d) (place_of r e) }
 {
-    if apart(d.x, e.x, l) {
-        return false;
-    }
-    if apart(d.y, e.y, l) {
-        return false;
-    }
-    same(
-        point_at(r.centre, r.radius, d),
-        point_at(r.centre, r.radius, e),
-    )
+    d.x.abs_diff(e.x) < l
+        && d.y.abs_diff(e.y) < l
+        && point_at(r.centre, r.radius, d) == point_at(r.centre, r.radius, e)
 }
 
 // The position past an edge, by whether its ends are one point.
@@ -61,10 +45,7 @@ fn past(at: usize, one: bool) -> usize
     requires { at + edge_size one < 2 ^ 64 }
     ensures { result ≡ at + edge_size one }
 {
-    if one {
-        return at;
-    }
-    at + 4
+    if one { at } else { at + 4 }
 }
 
 // The position past the last edge, from the point in the direction d to the end.
@@ -73,7 +54,7 @@ fn past_last(at: usize, r: Turning, d: Vector) -> usize
     requires room { Room edge_numbers at (edge_of (place_of r d) r.to) }
     ensures { result ≡ at + length (spread edge_numbers (edge_of (place_of r d) r.to)) }
 {
-    past(at, same(point_at(r.centre, r.radius, d), r.to))
+    past(at, point_at(r.centre, r.radius, d) == r.to)
 }
 
 // The position past an arc that goes on from the point in the direction d, with 1,535 rotations left: rotation after rotation.
@@ -85,9 +66,8 @@ fn counted_each(at: usize, r: Turning, d: Vector) -> usize
     let l = least(r.radius);
     let mut dir = d;
     let mut n = at;
-    let mut left: usize = 1535;
     let mut z = cross(dir, r.toward);
-    while 0 < left {
+    for _ in 1..MOST_ROTATIONS {
         let next = rotated(r.step, dir);
         if stops(z, dir, next, r.toward) {
             return past_last(n, r, dir);
@@ -95,30 +75,28 @@ fn counted_each(at: usize, r: Turning, d: Vector) -> usize
         n = past(n, stays(r, dir, next, l));
         z = cross(next, r.toward);
         dir = next;
-        left -= 1;
     }
     past_last(n, r, dir)
 }
 
-// How many rotations an arc has, the one to the direction d and those that leaps count from there, where they tell that every edge has length; else 0.
-pub fn turned_on(r: Turning, d: Vector) -> usize
+// How many rotations an arc has, the one to the direction d and those that leaps count from there, where they tell that every edge has length.
+pub fn turned_on(r: Turning, d: Vector) -> Option<usize>
     requires { Turns r × UnitLong d }
-    ensures { BendsOn r d result }
+    ensures { IfSome result (λ n. (0 < n) × BendsOn r d n) }
 {
-    if moves(r) {
-        let s = leapt(r, d);
-        if ends(r.step, r.toward, s.direction, s.off) {
-            if long(s.direction, s.off) {
-                if misses(r, s.direction, s.off) {
-                    return s.turns + 1;
-                }
-                if hits(r, s.direction, s.off) {
-                    return s.turns;
-                }
-            }
-        }
+    if !moves(r) {
+        return None;
     }
-    0
+    let s = leapt(r, d);
+    if !ends(r.step, r.toward, s.direction, s.off) || !long(s.direction, s.off) {
+        None
+    } else if misses(r, s.direction, s.off) {
+        Some(s.turns + 1)
+    } else if 0 < s.turns && hits(r, s.direction, s.off) {
+        Some(s.turns)
+    } else {
+        None
+    }
 }
 
 // The position past an arc that goes on from the point in the direction d: by leaps, where they tell.
@@ -127,9 +105,8 @@ pub fn counted(at: usize, r: Turning, d: Vector) -> usize
     requires room { Room edge_numbers at (turns_of 1535 r d (place_of r d)) }
     ensures { result ≡ at + length (spread edge_numbers (turns_of 1535 r d (place_of r d))) }
 {
-    let n = turned_on(r, d);
-    if 0 < n {
-        return at + 4 * n;
+    match turned_on(r, d) {
+        Some(n) => at + 4 * n,
+        None => counted_each(at, r, d),
     }
-    counted_each(at, r, d)
 }

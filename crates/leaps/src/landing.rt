@@ -1,5 +1,5 @@
 // Where an arc's last inner direction is known but for how far off it is: whether the point in it surely is, or surely is not, the arc's end.
-ghost use Rattle.std.specs.Prelude.{◌≡◌, ◌^◌, ◌≤◌, pos, ◌+ℤ◌, ◌-ℤ◌};
+ghost use Rattle.std.specs.Prelude.{◌≡◌, ◌^◌, ◌≤◌, ◌+ℤ◌};
 ghost use Rattle.whole.specs.Sizes.{Size};
 ghost use Rattle.number.specs.MulDiv.{mul_div_of};
 ghost use Rattle.plane.specs.Directions.{UnitLong};
@@ -9,34 +9,13 @@ ghost use Rattle.leaps.specs.Landings.{Lowest, Highest, Passes, Meets, Misses, H
 use plane::Vector;
 use plane::rotation::scaled;
 use turning::Turning;
-use turning::turn::moved;
-
-// A component less how far off it is.
-fn less(a: i64, off: u64) -> i64
-    requires { Size (2 ^ 30) a × (off ≤ 2 ^ 20) }
-    ensures { result ≡ a -ℤ pos off }
-{
-    a - (off as i64)
-}
-
-// A component and how far off it is.
-fn more(a: i64, off: u64) -> i64
-    requires { Size (2 ^ 30) a × (off ≤ 2 ^ 20) }
-    ensures { result ≡ a +ℤ pos off }
-{
-    a + (off as i64)
-}
 
 // The lowest component that a direction can have where it lies at most `off` from a; none has one below -2^30.
 fn lowest(a: i64, off: u64) -> i64
     requires { Size (2 ^ 30) a × (off ≤ 2 ^ 20) }
     ensures { Lowest a off result }
 {
-    let l = less(a, off);
-    if l < -0x4000_0000 {
-        return -0x4000_0000;
-    }
-    l
+    (a - off as i64).max(-0x4000_0000)
 }
 
 // The highest; none has one above 2^30.
@@ -44,11 +23,7 @@ fn highest(a: i64, off: u64) -> i64
     requires { Size (2 ^ 30) a × (off ≤ 2 ^ 20) }
     ensures { Highest a off result }
 {
-    let h = more(a, off);
-    if 0x4000_0000 < h {
-        return 0x4000_0000;
-    }
-    h
+    (a + off as i64).min(0x4000_0000)
 }
 
 // The coordinate at the radius from c in a direction with the component d.
@@ -56,7 +31,7 @@ fn coordinate(c: i64, radius: i64, d: i64) -> i64
     requires { Size (2 ^ 28) c × Radius radius × Size (2 ^ 30) d }
     ensures { result ≡ c +ℤ mul_div_of d radius (2 ^ 30) }
 {
-    moved(c, scaled(d, radius as u64))
+    c + scaled(d, radius as u64)
 }
 
 // Whether no component within `off` of a gives the coordinate `to`.
@@ -64,10 +39,7 @@ fn passes(c: i64, radius: i64, a: i64, off: u64, to: i64) -> bool
     requires { Size (2 ^ 28) c × Radius radius × Size (2 ^ 30) a × (off ≤ 2 ^ 20) }
     ensures { Passes c radius a off to result }
 {
-    if to < coordinate(c, radius, lowest(a, off)) {
-        return true;
-    }
-    coordinate(c, radius, highest(a, off)) < to
+    to < coordinate(c, radius, lowest(a, off)) || coordinate(c, radius, highest(a, off)) < to
 }
 
 // Whether every component within `off` of a gives the coordinate `to`.
@@ -75,10 +47,7 @@ fn meets(c: i64, radius: i64, a: i64, off: u64, to: i64) -> bool
     requires { Size (2 ^ 28) c × Radius radius × Size (2 ^ 30) a × (off ≤ 2 ^ 20) }
     ensures { Meets c radius a off to result }
 {
-    if coordinate(c, radius, lowest(a, off)) == to {
-        return coordinate(c, radius, highest(a, off)) == to;
-    }
-    false
+    coordinate(c, radius, lowest(a, off)) == to && coordinate(c, radius, highest(a, off)) == to
 }
 
 // Whether the point in every direction that lies at most `off` from d is surely not the arc's end.
@@ -86,10 +55,7 @@ pub fn misses(r: Turning, d: Vector, off: u64) -> bool
     requires { Turns r × UnitLong d × (off ≤ 2 ^ 20) }
     ensures { Misses r d off result }
 {
-    if passes(r.centre.x, r.radius, d.x, off, r.to.x) {
-        return true;
-    }
-    passes(r.centre.y, r.radius, d.y, off, r.to.y)
+    passes(r.centre.x, r.radius, d.x, off, r.to.x) || passes(r.centre.y, r.radius, d.y, off, r.to.y)
 }
 
 // Whether it is surely the arc's end.
@@ -97,8 +63,5 @@ pub fn hits(r: Turning, d: Vector, off: u64) -> bool
     requires { Turns r × UnitLong d × (off ≤ 2 ^ 20) }
     ensures { Hits r d off result }
 {
-    if meets(r.centre.x, r.radius, d.x, off, r.to.x) {
-        return meets(r.centre.y, r.radius, d.y, off, r.to.y);
-    }
-    false
+    meets(r.centre.x, r.radius, d.x, off, r.to.x) && meets(r.centre.y, r.radius, d.y, off, r.to.y)
 }

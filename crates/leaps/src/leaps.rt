@@ -1,11 +1,9 @@
 // An arc's rotations, many at a time: where they come to is known but for how far off it is, which is enough to count them.
-ghost use Rattle.std.specs.Prelude.{◌≡◌, ◌*◌, ◌^◌, ◌≤◌, ◌<◌, pos, ◌-ℤ◌};
-ghost use Rattle.whole.specs.Sizes.{Size};
+ghost use Rattle.std.specs.Prelude.{◌≡◌, ◌*◌, ◌^◌, ◌≤◌, ◌<◌, IfSome};
 ghost use Rattle.plane.specs.Directions.{UnitLong};
 ghost use Rattle.turning.specs.Bounds.{Turns};
 ghost use Rattle.leaps.specs.Leaps.{sway_of, Leaps, Comes, Leads, Ahead, Behind, Clears, Ends, Long, Moves};
 
-use number::sign::size;
 use plane::Vector;
 use plane::rotation::rotated;
 use plane::vectors::{cross, dot, square};
@@ -19,34 +17,26 @@ pub struct Leap {
     pub turns: usize,
 }
 
-// 2^30 less a component.
-fn lack(a: i64) -> i64
-    requires { Size (2 ^ 30) a }
-    ensures { result ≡ pos (2 ^ 30) -ℤ a }
-{
-    0x4000_0000 - a
-}
-
 // How far a rotation by t takes a direction at most.
 fn sway(t: Vector) -> u64
     requires { UnitLong t }
     ensures { result ≡ sway_of t }
 {
-    size(lack(t.x)) + size(t.y) + 2
+    (0x4000_0000 - t.x).unsigned_abs() + t.y.unsigned_abs() + 2
 }
 
 // Whether z is n or more.
 fn ahead(z: i64, n: u64) -> bool
     ensures { Ahead z n result }
 {
-    0 <= z && n <= size(z)
+    0 <= z && n <= z.unsigned_abs()
 }
 
 // Whether z is -n or less.
 fn behind(z: i64, n: u64) -> bool
     ensures { Behind z n result }
 {
-    z < 0 && n <= size(z)
+    z < 0 && n <= z.unsigned_abs()
 }
 
 // Whether no direction within reach of d stops an arc towards e.
@@ -56,44 +46,32 @@ fn clear(d: Vector, e: Vector, reach: u64) -> bool
 {
     let least = reach * 0x4000_0000 + 1;
     let z = cross(d, e);
-    if ahead(z, least) {
-        return true;
-    }
-    if behind(z, least) {
-        return true;
-    }
-    behind(dot(d, e), least)
+    ahead(z, least) || behind(z, least) || behind(dot(d, e), least)
 }
 
 // The next leap: by eight rotations where they are clear, else by one, else none. A rotation by `eight` is eight by the step but for 63 at most, and each
 // rotation of a direction that is off leaves it off by 3 more.
-fn leap_on(r: Turning, eight: Vector, far: u64, s: Leap) -> Leap
+fn leap_on(r: Turning, eight: Vector, far: u64, s: Leap) -> Option<Leap>
     requires turns { Turns r × Leaps r.step 8 63 eight × (far ≡ sway_of r.step) × (sway_of r.step ≤ 2 ^ 27) }
     requires unit_long { UnitLong s.direction × (s.turns < 1527) × (s.off ≤ 9 * s.turns) }
-    ensures { Leads r.step r.toward s.turns s.off s.direction result.turns result.off result.direction × (s.turns ≤ result.turns) }
+    ensures { IfSome result (λ n. Leads r.step r.toward s.turns s.off s.direction n.turns n.off n.direction × (s.turns < n.turns)) }
 {
     let d = s.direction;
     if clear(d, r.toward, s.off + 8 * far) {
-        let next = rotated(eight, d);
-        let off = s.off + 66;
-        let turns = s.turns + 8;
-        return Leap {
-            direction: next,
-            off,
-            turns,
-        };
+        Some(Leap {
+            direction: rotated(eight, d),
+            off: s.off + 66,
+            turns: s.turns + 8,
+        })
+    } else if clear(d, r.toward, s.off + far) {
+        Some(Leap {
+            direction: rotated(r.step, d),
+            off: s.off + 3,
+            turns: s.turns + 1,
+        })
+    } else {
+        None
     }
-    if clear(d, r.toward, s.off + far) {
-        let next = rotated(r.step, d);
-        let off = s.off + 3;
-        let turns = s.turns + 1;
-        return Leap {
-            direction: next,
-            off,
-            turns,
-        };
-    }
-    s
 }
 
 // Where an arc from d comes to by leaps, until none is clear.
@@ -110,12 +88,12 @@ pub fn leapt(r: Turning, d: Vector) -> Leap
         off: 0,
         turns: 0,
     };
+    // a leap is one rotation or eight, so what ends this is their sum, and no range
     while s.turns < 1527 {
-        let n = leap_on(r, eight, far, s);
-        if n.turns == s.turns {
+        let Some(next) = leap_on(r, eight, far, s) else {
             return s;
-        }
-        s = n;
+        };
+        s = next;
     }
     s
 }
@@ -128,12 +106,7 @@ pub fn ends(t: Vector, e: Vector, d: Vector, off: u64) -> bool
     let least = off * 0x4000_0000;
     let past = (off + 3) * 0x4000_0000;
     let next = rotated(t, d);
-    if behind(cross(next, e), past) {
-        if ahead(cross(d, e), least) {
-            return ahead(dot(d, e), least);
-        }
-    }
-    false
+    behind(cross(next, e), past) && ahead(cross(d, e), least) && ahead(dot(d, e), least)
 }
 
 // Whether every direction that is at most so far off d is seven eighths as long as a unit.
@@ -150,10 +123,7 @@ pub fn moves(r: Turning) -> bool
     requires { Turns r }
     ensures { Moves r result }
 {
-    if 0x800_0000 < sway(r.step) {
-        return false;
-    }
-    let radius = size(r.radius);
-    let least = 7 * size(r.step.y) / 16;
-    0x4000_0000 + radius < least * radius
+    let radius = r.radius.unsigned_abs();
+    let least = 7 * r.step.y.unsigned_abs() / 16;
+    sway(r.step) <= 0x800_0000 && 0x4000_0000 + radius < least * radius
 }

@@ -1,51 +1,43 @@
-// The lines of a text, and the numbers of a line.
-ghost use Rattle.std.specs.Prelude.{◌≤◌, length};
+// A line that holds numbers alone.
+ghost use Rattle.std.specs.Prelude.{◌≤◌, length, IfSome};
 
-use crate::token::{Token, next};
+use crate::token::{Number, Numbers};
+use std::fmt;
 
-// The first line end from at on, or the end of the text.
-pub fn end(text: &[u8], at: usize) -> usize
-    requires { at ≤ length text.now }
-    ensures { (at ≤ result) × (result ≤ length text.now) }
-{
-    for i in at..text.len() {
-        if text[i] == b'\n' {
-            return i;
+// Why a line has no answer: it is no case, or its numbers lie outside what the function takes.
+#[derive(Clone, Copy, Debug, PartialEq, Eq)]
+pub enum Refusal {
+    NoCase,
+    Outside,
+}
+
+impl fmt::Display for Refusal {
+    fn fmt<W: fmt::Write>(&self, f: &mut fmt::Formatter<W>) -> fmt::Result {
+        match self {
+            Refusal::NoCase => write!(f, "no case"),
+            Refusal::Outside => write!(f, "outside"),
         }
     }
-    text.len()
 }
 
-// How many numbers were read, and where the line goes on.
-#[derive(Clone, Copy)]
-pub struct Numbers {
-    pub count: usize,
-    pub at: usize,
-}
-
-// Reads the numbers of a line from at on, their signs and sizes apart: `most` of them, or those before the end or before something else.
-pub fn read_numbers(
-    line: &[u8],
-    at: usize,
-    most: usize,
-    minus: &mut [bool; 16],
-    sizes: &mut [u64; 16],
-) -> Numbers
-    requires { (at ≤ length line.now) × (most ≤ 16) }
-    ensures { (result.count ≤ most) × (result.at ≤ length line.now) }
+// Fills a room with the next numbers, as far as there are; how many.
+fn fill(numbers: &mut Numbers<'_>, room: &mut [Number]) -> usize
+    ensures { result ≤ length room.old }
 {
-    let mut i = at;
-    for count in 0..most {
-        if line.len() <= i {
-            return Numbers { count, at: i };
-        }
-        let step = next(line, i);
-        let Token::Whole(number) = step.token else {
-            return Numbers { count, at: i };
+    for (count, place) in room.iter_mut().enumerate() {
+        let Some(number) = numbers.next() else {
+            return count;
         };
-        minus[count] = number.minus;
-        sizes[count] = number.size;
-        i = step.at;
+        *place = number;
     }
-    Numbers { count: most, at: i }
+    room.len()
+}
+
+// The numbers of a line, at the front of a room, if it holds nothing else and there is room for all.
+pub fn read_numbers<'a>(line: &[u8], room: &'a mut [Number]) -> Option<&'a [Number]>
+    ensures { IfSome result (λ numbers. length numbers.now ≤ length room.old) }
+{
+    let mut numbers = Numbers::of(line);
+    let count = fill(&mut numbers, room);
+    numbers.is_done().then_some(&room[..count])
 }

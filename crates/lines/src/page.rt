@@ -1,6 +1,6 @@
 // A page of bytes to print: a writer that is lent and appended to. Behind it a buffer stands, so that a number costs no write of its own. Where writing fails, what
 // the page held stays at its front.
-ghost use Rattle.std.specs.Prelude.{OnOk, [], ◌∷◌};
+ghost use Rattle.std.specs.Prelude.{◌<◌, ◌≤◌, IfOk, OnOk, [], ◌∷◌, length, take};
 ghost use Rattle.std.specs.Fmt.{decimal, signed_decimal};
 ghost use Rattle.std.specs.Io.KnownBytes.{Appends, Keeps};
 ghost use Rattle.lines.specs.Pages.{Grows};
@@ -17,18 +17,36 @@ pub fn byte<W: Write>(page: &mut W, value: u8) -> io::Result<()>
     text(page, &[value])
 }
 
-// Each byte of a text.
+// One write, tried again where it is interrupted; how many bytes were taken, at least one of some.
+fn write_some<W: Write>(page: &mut W, bytes: &[u8]) -> io::Result<usize>
+    requires { 0 < length bytes.now }
+    ensures some { IfOk result (λ count. (0 < count) × (count ≤ length bytes.now)) }
+    ensures ok { IfOk result (λ count. Appends (W.contents page.old) (W.contents page.new) (take count bytes.now)) }
+    ensures grows { Grows (W.contents page.old) (W.contents page.new) }
+{
+    for _ in 0..u64::MAX {
+        match page.write(bytes) {
+            Ok(0) => return Err(io::Error::from(ErrorKind::WriteZero)),
+            Ok(count) => return Ok(count),
+            Err(e) => {
+                if e.kind() != ErrorKind::Interrupted {
+                    return Err(e);
+                }
+            }
+        }
+    }
+    Err(io::Error::from(ErrorKind::Interrupted))
+}
+
+// Each byte of a text. `write_all` does the same, but promises nothing of what an error leaves.
 pub fn text<W: Write>(page: &mut W, bytes: &[u8]) -> io::Result<()>
     ensures ok { OnOk result (Appends (W.contents page.old) (W.contents page.new) bytes.now) }
     ensures grows { Grows (W.contents page.old) (W.contents page.new) }
 {
-    let mut done = 0;
-    while done < bytes.len() {
-        let more = page.write(&bytes[done..])?;
-        if more == 0 {
-            return Err(io::Error::from(ErrorKind::WriteZero));
-        }
-        done += more;
+    let mut rest = bytes;
+    while !rest.is_empty() {
+        let count = write_some(page, rest)?;
+        rest = &rest[count..];
     }
     Ok(())
 }

@@ -1,34 +1,56 @@
-// The tokens of a text: decimal numbers with spaces between them, and line ends.
-ghost use Rattle.std.specs.Prelude.{◌<◌, ◌≤◌, length};
+// The numbers of a line: decimal numbers with spaces between them.
+ghost use Rattle.std.specs.Prelude.{length};
+ghost use Rattle.std.specs.Iterator.{at_most};
 
 // A whole number, its sign and its size apart.
-#[derive(Clone, Copy)]
+#[derive(Clone, Copy, Debug, PartialEq, Eq)]
 pub struct Number {
     pub minus: bool,
     pub size: u64,
 }
 
-// What stands next in a text.
-#[derive(Clone, Copy)]
-pub enum Token {
-    Whole(Number),
-    LineEnd,
-    TextEnd,
-    Other,
+// A number that a type doesn't hold.
+#[derive(Clone, Copy, Debug, PartialEq, Eq)]
+pub struct OutOfRange;
+
+impl Number {
+    // 0, without a minus.
+    pub const ZERO: Number = Number {
+        minus: false,
+        size: 0,
+    };
+
+    // The number, unless a minus stands before it.
+    pub fn natural(self) -> Option<u64> {
+        if self.minus { None } else { Some(self.size) }
+    }
 }
 
-// What stands next, and where the text goes on after it.
-#[derive(Clone, Copy)]
-pub struct Step {
-    pub token: Token,
-    pub at: usize,
+impl TryFrom<Number> for i64 {
+    type Error = OutOfRange;
+
+    fn try_from(number: Number) -> Result<i64, OutOfRange> {
+        let size = i64::try_from(number.size).map_err(|_| OutOfRange)?;
+        Ok(if number.minus { -size } else { size })
+    }
 }
 
-// A byte as a wide number.
-pub fn wide(byte: u8) -> u64
-    ensures { result < 256 }
-{
-    byte as u64
+impl TryFrom<Number> for i32 {
+    type Error = OutOfRange;
+
+    fn try_from(number: Number) -> Result<i32, OutOfRange> {
+        i32::try_from(i64::try_from(number)?).map_err(|_| OutOfRange)
+    }
+}
+
+// A byte has no minus, 0 neither.
+impl TryFrom<Number> for u8 {
+    type Error = OutOfRange;
+
+    fn try_from(number: Number) -> Result<u8, OutOfRange> {
+        let size = number.natural().ok_or(OutOfRange)?;
+        u8::try_from(size).map_err(|_| OutOfRange)
+    }
 }
 
 // The size that a word of digits spells, if it fits.
@@ -41,74 +63,53 @@ fn read_digits(word: &[u8]) -> Option<u64> {
         if !byte.is_ascii_digit() {
             return None;
         }
-        size = size.checked_mul(10)?.checked_add(wide(*byte - b'0'))?;
+        size = size.checked_mul(10)?.checked_add(u64::from(*byte - b'0'))?;
     }
     Some(size)
 }
 
-// The number of that sign that a word of digits spells.
-fn read_signed(minus: bool, word: &[u8]) -> Token {
-    match read_digits(word) {
-        Some(size) => Token::Whole(Number { minus, size }),
-        None => Token::Other,
+// The number that a word spells, with or without a minus.
+fn read_word(word: &[u8]) -> Option<Number> {
+    let (minus, digits) = match word.strip_prefix(b"-") {
+        Some(digits) => (true, digits),
+        None => (false, word),
+    };
+    let size = read_digits(digits)?;
+    Some(Number { minus, size })
+}
+
+// The numbers of a line, up to the first word that spells none.
+#[derive(Clone, Copy, Debug)]
+pub struct Numbers<'a> {
+    rest: &'a [u8],
+}
+
+impl<'a> Numbers<'a> {
+    // From the line's front on.
+    pub fn of(line: &'a [u8]) -> Numbers<'a> {
+        Numbers { rest: line }
+    }
+
+    // Whether nothing is left of the line, no space either.
+    pub fn is_done(&self) -> bool {
+        self.rest.is_empty()
     }
 }
 
-// The number that a word spells, with or without a sign.
-fn read_word(word: &[u8]) -> Token {
-    match word.strip_prefix(b"-") {
-        Some(digits) => read_signed(true, digits),
-        None => read_signed(false, word),
-    }
-}
+impl Iterator for Numbers<'_> {
+    type Item = Number;
 
-// The first place from at on that holds no space, or the end.
-fn word_start(text: &[u8], at: usize) -> usize
-    requires { at ≤ length text.now }
-    ensures { (at ≤ result) × (result ≤ length text.now) }
-{
-    for i in at..text.len() {
-        if text[i] != b' ' {
-            return i;
-        }
-    }
-    text.len()
-}
+    ghost remaining = { λ numbers. at_most (length numbers.rest.now) };
 
-// The first place from at on that holds a space or a line end, or the end.
-fn word_end(text: &[u8], at: usize) -> usize
-    requires { at ≤ length text.now }
-    ensures { (at ≤ result) × (result ≤ length text.now) }
-{
-    for i in at..text.len() {
-        if matches!(text[i], b' ' | b'\n') {
-            return i;
-        }
-    }
-    text.len()
-}
-
-// The token from at on. Each passes at least one byte.
-pub fn next(text: &[u8], at: usize) -> Step
-    requires { at < length text.now }
-    ensures { (at < result.at) × (result.at ≤ length text.now) }
-{
-    let start = word_start(text, at);
-    if text.len() <= start {
-        return Step {
-            token: Token::TextEnd,
-            at: start,
-        };
-    }
-    if text[start] == b'\n' {
-        return Step {
-            token: Token::LineEnd,
-            at: start + 1,
-        };
-    }
-    let end = word_end(text, start + 1);
-    Step {
-        token: read_word(&text[start..end]),
-        at: end,
+    fn next(&mut self) -> Option<Number> {
+        let start = self.rest.iter().position(|byte| *byte != b' ')?;
+        let word = &self.rest[start..];
+        let end = word
+            .iter()
+            .position(|byte| *byte == b' ')
+            .unwrap_or(word.len());
+        let number = read_word(&word[..end])?;
+        self.rest = &word[end..];
+        Some(number)
     }
 }

@@ -1,4 +1,5 @@
 -- Why a replaced vertex changes few bodies: after a drawn or a broken step, what later bodies can see of the walk is fixed by that step's two vertices.
+use Rattle.std.specs.Prelude.{Option, Some, None}
 use mathlib.Core.Path.{◌≡◌, refl, sym, ap, ◌∙◌}
 use mathlib.Core.Bool.{Bool, true, false, true≢false}
 use mathlib.Core.List.{List, [], ◌∷◌, ◌++◌}
@@ -22,26 +23,24 @@ use Rattle.contacts.specs.declared.Kind.{Kind}
 use Rattle.contacts.specs.declared.Kind.TheVariants.{Broken, Drawn, Thin}
 use Rattle.joins.specs.declared.Cap.{Cap}
 use Rattle.joins.specs.declared.Cap.TheVariants.{Butt, Round}
-use Rattle.contacts.specs.declared.Last.{Last}
-use Rattle.contacts.specs.declared.Last.TheVariants.{Nothing, Held}
 use Rattle.variable_stroke.specs.declared.Chain.{Chain}
 use Rattle.variable_stroke.specs.declared.Walk.{Walk}
 
 -- ---- a chain's finish and its next section show no more
 
-finish_last_lem : (t : Vector) (l : Last) (c : Chain) (k : Cap) → c.last ≡ l → finish_last t (seen_last l c).last (seen_last l c) k ≡ finish_last t l c k
+finish_last_lem : (t : Vector) (l : Option Section) (c : Chain) (k : Cap) → c.last ≡ l → finish_last t (seen_last l c).last (seen_last l c) k ≡ finish_last t l c k
 unfolding seen_last finish_last
-finish_last_lem t Nothing c k e = rw e
-finish_last_lem t (Held s) c k e = refl
+finish_last_lem t None c k e = rw e
+finish_last_lem t (Some s) c k e = refl
 
 finish_seen : (t : Vector) (c : Chain) (k : Cap) → finish_of t (seen_chain c) k ≡ finish_of t c k
 unfolding seen_chain finish_of
 finish_seen t c k = finish_last_lem t c.last c k refl
 
-meet_last_lem : (t : Vector) (l : Last) (c : Chain) (s : Section) → c.last ≡ l → meet_last t (seen_last l c).last (seen_last l c).cap s ≡ meet_last t l c.cap s
+meet_last_lem : (t : Vector) (l : Option Section) (c : Chain) (s : Section) → c.last ≡ l → meet_last t (seen_last l c).last (seen_last l c).cap s ≡ meet_last t l c.cap s
 unfolding seen_last meet_last
-meet_last_lem t Nothing c s e = rw e
-meet_last_lem t (Held m) c s e = refl
+meet_last_lem t None c s e = rw e
+meet_last_lem t (Some m) c s e = refl
 
 drawn_seen : (t : Vector) (c : Chain) (s : Section) → drawn_of t (seen_chain c) s ≡ drawn_of t c s
 unfolding seen_chain drawn_of
@@ -66,10 +65,10 @@ emitted_seen t w b = λ i. elim (kind_of w.at b) [
   | Thin ↦ leave_edges_lem t w b i
 ]
 
-marked_of-seen : (l : Last) (c : Chain) → c.last ≡ l → seen_chain (marked_of (seen_last l c) (seen_last l c).last) ≡ seen_chain (marked_of c l)
+marked_of-seen : (l : Option Section) (c : Chain) → c.last ≡ l → seen_chain (marked_of (seen_last l c) (seen_last l c).last) ≡ seen_chain (marked_of c l)
 unfolding seen_chain seen_last marked_of
-marked_of-seen Nothing c e = rw e
-marked_of-seen (Held s) c e = refl
+marked_of-seen None c e = rw e
+marked_of-seen (Some s) c e = refl
 
 leave_marked_of : (x : Bool) (a : Vertex) (c : Chain)
     → seen_chain (marked_of (elim x [ true ↦ fresh_of a Butt | false ↦ seen_chain c ]) (elim x as (λ _. Chain) [ true ↦ fresh_of a Butt | false ↦ seen_chain c ]).last)
@@ -110,17 +109,17 @@ alike_emit_alike t u w b bs e = sym (bodies_seen t u b bs) ∙ ap (λ x. bodies_
 
 -- ---- and a drawn or a broken step fixes what is seen
 
-walk_of : Vertex → Chain → Last → Cap → Walk
+walk_of : Vertex → Chain → Option Section → Cap → Walk
 walk_of a c l k = record { at = a; chain = c; previous = l; closing = k }
 
-settled_chain : (k : Kind) (a b : Vertex) (c d : Chain) (l m : Last) (h j : Cap) → settles k ≡ true
+settled_chain : (k : Kind) (a b : Vertex) (c d : Chain) (l m : Option Section) (h j : Cap) → settles k ≡ true
     → seen_chain (next_chain k (walk_of a c l h) b) ≡ seen_chain (next_chain k (walk_of a d m j) b)
 unfolding settles next_chain walk_of seen_chain seen_last marked_of
 settled_chain Broken a b c d l m h j e = refl
 settled_chain Drawn a b c d l m h j e = refl
 settled_chain Thin a b c d l m h j e = absurd (true≢false (sym e))
 
-settled : (a b : Vertex) (c d : Chain) (l m : Last) (h j : Cap) → settles (kind_of a b) ≡ true → seen (next_of (walk_of a c l h) b) ≡ seen (next_of (walk_of a d m j) b)
+settled : (a b : Vertex) (c d : Chain) (l m : Option Section) (h j : Cap) → settles (kind_of a b) ≡ true → seen (next_of (walk_of a c l h) b) ≡ seen (next_of (walk_of a d m j) b)
 unfolding seen next_of walk_of
 settled a b c d l m h j e =
     λ i. record { at = b; chain = settled_chain (kind_of a b) a b c d l m h j e i; previous = next_last (kind_of a b) a b; closing = Round }
@@ -132,7 +131,7 @@ settled_alike u w b e h =
     ∙ ap (λ a. seen (next_of (walk_of a w.chain w.previous w.closing) b)) e
 
 -- ---- two walks that reached the same vertex: the bodies after a later drawn or broken step are the same
-later_from : (t : Vector) (n : ℕ) (bs : List Vertex) (a : Vertex) (c d : Chain) (l m : Last) (h j : Cap)
+later_from : (t : Vector) (n : ℕ) (bs : List Vertex) (a : Vertex) (c d : Chain) (l m : Option Section) (h j : Cap)
     → suc n < length bs → settles (kind_of (get_or (a ∷ bs) n none) (get_or bs n none)) ≡ true
     → drop (suc n) (bodies_from t (walk_of a c l h) bs) ≡ drop (suc n) (bodies_from t (walk_of a d m j) bs)
 unfolding bodies_from next_of walk_of

@@ -1,6 +1,7 @@
 -- How far a change reaches (demand 3), over the bodies that the rules give.
-use Rattle.std.specs.Prelude.{◌≡◌, Bool, true, false, List, [], ◌∷◌, ℕ, suc, ◌+◌, ◌-◌, ◌≤◌, ◌<◌, length, get_or, take, drop, set}
+use Rattle.std.specs.Prelude.{◌≡◌, Bool, true, false, List, [], ◌∷◌, ℕ, suc, ◌+◌, ◌-◌, ◌≤◌, ◌<◌, length, get_or, take, drop, set, Option, Some, None}
 use Rattle.plane.specs.declared.Vector.{Vector}
+use Rattle.contacts.specs.declared.Section.{Section}
 use Rattle.contacts.specs.Contacts.{kind_of}
 use Rattle.variable_stroke.specs.Chains.{next_of}
 use Rattle.paths.specs.Paths.{none, bodies_from, bodies_of}
@@ -8,8 +9,6 @@ use Rattle.contacts.specs.declared.Vertex.{Vertex}
 use Rattle.contacts.specs.declared.Kind.{Kind}
 use Rattle.contacts.specs.declared.Kind.TheVariants.{Broken, Drawn, Thin}
 use Rattle.joins.specs.declared.Cap.TheVariants.{Round}
-use Rattle.contacts.specs.declared.Last.{Last}
-use Rattle.contacts.specs.declared.Last.TheVariants.{Nothing, Held}
 use Rattle.variable_stroke.specs.declared.Chain.{Chain}
 use Rattle.variable_stroke.specs.declared.Walk.{Walk}
 
@@ -26,9 +25,9 @@ EarlierKept = (g : ℕ) (vs : List Vertex) (k : ℕ) (v : Vertex) → take k (bo
 -- ---- what later bodies can see of a walk
 
 -- Of a chain with a last section only that section is seen; of a walk, not its closing cap, which the next step sets anew.
-unfoldable pub seen_last : Last → Chain → Chain
-seen_last Nothing c = c
-seen_last (Held s) c = record { start = s.a; cap = Round; last = Held s; mark = true }
+unfoldable pub seen_last : Option Section → Chain → Chain
+seen_last None c = c
+seen_last (Some s) c = record { start = s.a; cap = Round; last = Some s; mark = true }
 
 unfoldable pub seen_chain : Chain → Chain
 seen_chain c = seen_last c.last c

@@ -6,7 +6,7 @@ mod print;
 
 ghost use Rattle.std.specs.Prelude.{◌≤◌, length};
 
-use explaining::{Listed, list_with};
+use explaining::list_with;
 use lines::page;
 use std::io;
 use std::io::{BufWriter, Read, Write};
@@ -26,12 +26,11 @@ fn print_store<W: Write>(
     requires own { 8272 ≤ length own.old }
 {
     if STORE < store.len() {
-        return page::text(page, b"refused: the input is longer than 60 KiB\n");
+        return writeln!(page, "refused: the input is longer than 60 KiB");
     }
-    let listed = list_with(store, list, path, own);
-    match listed {
-        Listed::Refused(r) => print::refusal(page, r),
-        Listed::Edges(m) => print::edges(page, list, m),
+    match list_with(store, list, path, own) {
+        Ok(count) => print::edges(page, list, count),
+        Err(refusal) => print::refusal(page, refusal),
     }
 }
 

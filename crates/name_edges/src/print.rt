@@ -1,87 +1,43 @@
 // Lines of a listing.
-use lines::page;
-use replies::Refusal;
-use replies::refusals::code;
+use replies::{Code, Refusal};
 use std::io;
 use std::io::Write;
 
-// A reason's words.
-fn reason<W: Write>(page: &mut W, number: usize) -> io::Result<()> {
-    let words: &[u8] = match number {
-        0 => b"left-side",
-        1 => b"right-side",
-        2 => b"start-cap",
-        3 => b"end-cap",
-        4 => b"left-join",
-        5 => b"right-join",
-        6 => b"gap",
-        _ => b"circle",
-    };
-    page::text(page, words)
+// The words of the reasons, in the order of their numbers in a list. The first two are those of sides.
+const REASONS: [&str; 8] = [
+    "left-side",
+    "right-side",
+    "start-cap",
+    "end-cap",
+    "left-join",
+    "right-join",
+    "gap",
+    "circle",
+];
+
+// Whether a list says that an end of a side is exact.
+fn end(exact: usize) -> &'static str {
+    if exact == 1 { "exact" } else { "rounded" }
 }
 
-// Whether one end of a side is exact.
-fn end<W: Write>(page: &mut W, exact: usize) -> io::Result<()> {
-    page::space(page)?;
-    if exact == 1 {
-        return page::text(page, b"exact");
-    }
-    page::text(page, b"rounded")
-}
-
-// Whether the ends of a side are exact, its start first; nothing of another edge.
-fn ends<W: Write>(page: &mut W, number: usize, start: usize, last: usize) -> io::Result<()> {
-    if number <= 1 {
-        end(page, start)?;
-        end(page, last)?;
-    }
-    Ok(())
-}
-
-// One edge's line.
-fn edge_line<W: Write>(
-    page: &mut W,
-    edge: usize,
-    number: usize,
-    vertex: usize,
-    place: usize,
-    start: usize,
-    last: usize,
-) -> io::Result<()> {
-    page::unsigned(page, edge as u64)?;
-    page::space(page)?;
-    reason(page, number)?;
-    page::space(page)?;
-    page::unsigned(page, vertex as u64)?;
-    page::space(page)?;
-    page::unsigned(page, place as u64)?;
-    ends(page, number, start, last)?;
-    page::line_end(page)
-}
-
-// The first m edges of a list, or all if it has no more.
-pub fn edges<W: Write>(page: &mut W, list: &[usize], m: usize) -> io::Result<()> {
-    for edge in 0..m.min(list.len() / 5) {
-        let at = 5 * edge;
-        edge_line(
-            page,
-            edge,
-            list[at],
-            list[at + 1],
-            list[at + 2],
-            list[at + 3],
-            list[at + 4],
-        )?;
+// The first edges of a list, five numbers an edge, or all if it has no more. Of a side its ends are told, the start first.
+pub fn edges<W: Write>(page: &mut W, list: &[usize], count: usize) -> io::Result<()> {
+    for (edge, numbers) in list.chunks_exact(5).take(count).enumerate() {
+        let [reason, vertex, place, start, last] = numbers else {
+            unreachable!();
+        };
+        let word = REASONS[(*reason).min(7)];
+        write!(page, "{edge} {word} {vertex} {place}")?;
+        if *reason < 2 {
+            write!(page, " {} {}", end(*start), end(*last))?;
+        }
+        writeln!(page)?;
     }
     Ok(())
 }
 
 // A refusal's number and the number with it.
-pub fn refusal<W: Write>(page: &mut W, r: Refusal) -> io::Result<()> {
-    let told = code(r);
-    page::text(page, b"refused: ")?;
-    page::unsigned(page, told.reply as u64)?;
-    page::space(page)?;
-    page::unsigned(page, told.number)?;
-    page::line_end(page)
+pub fn refusal<W: Write>(page: &mut W, refusal: Refusal) -> io::Result<()> {
+    let told = Code::from(refusal);
+    writeln!(page, "refused: {} {}", told.reply, told.number)
 }

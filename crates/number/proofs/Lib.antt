@@ -2,4 +2,3 @@
 pub mod Roots
 pub mod Nearest
 pub mod Leading
-pub mod Limbs

@@ -3,15 +3,14 @@ ghost use Rattle.std.specs.Prelude.{◌≡◌, ◌+◌, ◌*◌, ◌^◌, ◌<�
 ghost use Rattle.number.specs.MulDiv.{nearest_of, mul_div_of, none_left, exact_of};
 ghost use Rattle.number.specs.Division.{Spared};
 
-use crate::sign::{signed, size};
+use crate::sign::signed;
 
 // How many low bits of den to spare, so that at most 34 are left.
 fn spare(den: u64) -> u32
     requires { 0 < den }
     ensures { Spared den result }
 {
-    let z = u64::leading_zeros(den);
-    if z < 30 { 30 - z } else { 0 }
+    30u32.saturating_sub(den.leading_zeros())
 }
 
 // The number top * 2^t + low, for some t.
@@ -62,16 +61,15 @@ pub fn nearest(r: u64, num: u64, den: u64) -> Rounded
     let a = lift(p % d.top, t) + r * n.low;
     let b = q * d.low;
     if den + 2 * b <= 2 * a {
-        let up = q + 1;
-        let due = den + b;
-        return Rounded {
-            quotient: up,
-            exact: a == due,
-        };
-    }
-    Rounded {
-        quotient: q,
-        exact: a == b,
+        Rounded {
+            quotient: q + 1,
+            exact: a == den + b,
+        }
+    } else {
+        Rounded {
+            quotient: q,
+            exact: a == b,
+        }
     }
 }
 
@@ -87,7 +85,7 @@ pub fn mul_div(a: i64, b: i64, d: i64) -> Quotient
     requires { (unsigned_abs a ≤ 2 ^ 28) × (unsigned_abs b ≤ 4 * unsigned_abs d) × (pos 0 <ℤ d) × (unsigned_abs d < 2 ^ 62) }
     ensures { (result.value ≡ mul_div_of a b (unsigned_abs d)) × (result.exact ≡ exact_of a b (unsigned_abs d)) }
 {
-    let q = nearest(size(a), size(b), d as u64);
+    let q = nearest(a.unsigned_abs(), b.unsigned_abs(), d as u64);
     Quotient {
         value: signed((a < 0) != (b < 0), q.quotient),
         exact: q.exact,

@@ -4,17 +4,14 @@ use mathlib.Core.Option.{Option, none, some}
 use lib.IntN.{pos-*ℤ-pos}
 use lib.Signed.{lt_z}
 use lib.Ieee.{Float, nan, inf, fin, binary32, of_int, is_nan}
+use Rattle.std.specs.Prelude.{Ok, Err}
 use Rattle.oldest.specs.Floats.{is_infinite, has_fraction, magnitude_of, whole_of, plain_zero}
-use Rattle.oldest.specs.Taken.{whole_in, coordinate_of, width_of}
+use Rattle.oldest.specs.Taken.{Taken, whole_in, coordinate_of, width_of}
 use Rattle.plane.specs.Vectors.{same_number}
 use Rattle.turning.proofs.Rays.{same_self, same_is}
-use Rattle.oldest.specs.Written.{returned_of, coordinate_back_of, width_back_of, float_in}
+use Rattle.oldest.specs.Written.{Written, returned_of, coordinate_back_of, width_back_of, float_in}
 use Rattle.oldest.specs.Calls.{coordinate_out, width_out}
 use Rattle.oldest.specs.Theorems.{IsWhole, IsWidth, Fits32}
-use Rattle.oldest.specs.declared.Taken.{Taken}
-use Rattle.oldest.specs.declared.Taken.TheVariants.{Whole, NotANumber, Infinite, Fraction, TooLarge, NegativeWidth, OddWidth}
-use Rattle.oldest.specs.declared.Written.{Written}
-use Rattle.oldest.specs.declared.Written.TheVariants.{Exact, NotExact}
 use Rattle.oldest.proofs.Digits.{zero_part, nearest_plain}
 use Rattle.oldest.proofs.Reasons.{coordinate_taken, coordinate_says, width_taken, width_says, size_is, no_sign}
 
@@ -30,40 +27,44 @@ other_number k n h = go (same_number k n) refl
 
 -- ---- whether a number returns
 
+-- one answer, one float
+one_float : {x y : Float} → ◌≡◌ {A = Written} (Ok x) (Ok y) → x ≡ y
+one_float e = cc
+
 module _ (n : ℤ) (x : Float) (t : Taken) where
-  pub none_back : whole_in t ≡ none → NotExact n ≡ returned_of n x t
+  pub none_back : whole_in t ≡ none → Err n ≡ returned_of n x t
   unfolding returned_of
   none_back h = rw (h, returned_of)
 
-  pub same_back : {k : ℤ} → t ≡ Whole k → k ≡ n → Exact x ≡ returned_of n x t
+  pub same_back : {k : ℤ} → t ≡ Ok k → k ≡ n → Ok x ≡ returned_of n x t
   unfolding returned_of whole_in
   same_back {k} h e = rw (h, returned_of, whole_in, same_number_lem k n e, returned_of)
 
-  pub other_back : {k : ℤ} → t ≡ Whole k → (k ≡ n → ⊥) → NotExact n ≡ returned_of n x t
+  pub other_back : {k : ℤ} → t ≡ Ok k → (k ≡ n → ⊥) → Err n ≡ returned_of n x t
   unfolding returned_of whole_in
   other_back {k} h e = rw (h, returned_of, whole_in, other_number k n e, returned_of)
 
-  pub back_says : (y : Float) → returned_of n x t ≡ Exact y → (x ≡ y) × (whole_in t ≡ some n)
+  pub back_says : (y : Float) → returned_of n x t ≡ Ok y → (x ≡ y) × (whole_in t ≡ some n)
   unfolding returned_of
   back_says y = go (whole_in t)
     where
-      picked : (k : ℤ) (b : Bool) → same_number k n ≡ b → elim b [ true ↦ Exact x | false ↦ NotExact n ] ≡ Exact y → (x ≡ y) × (some k ≡ some n)
-      picked k true e h = (let q : Exact x ≡ Exact y = h in cc, ap some (same_is k n e))
+      picked : (k : ℤ) (b : Bool) → same_number k n ≡ b → ◌≡◌ {A = Written} (elim b as (λ _. Written) [ true ↦ Ok x | false ↦ Err n ]) (Ok y) → (x ≡ y) × (some k ≡ some n)
+      picked k true e h = (one_float h, ap some (same_is k n e))
       picked k false e h = absurd (let z : ◌≡◌ {A = ℕ} 0 1 = cc in omega arith)
 
-      go : (o : Option ℤ) → elim o [ some k ↦ elim (same_number k n) [ true ↦ Exact x | false ↦ NotExact n ] | none ↦ NotExact n ] ≡ Exact y → (x ≡ y) × (o ≡ some n)
+      go : (o : Option ℤ) → ◌≡◌ {A = Written} (elim o as (λ _. Written) [ some k ↦ elim (same_number k n) as (λ _. Written) [ true ↦ Ok x | false ↦ Err n ] | none ↦ Err n ]) (Ok y) → (x ≡ y) × (o ≡ some n)
       go none h = absurd (let z : ◌≡◌ {A = ℕ} 0 1 = cc in omega arith)
       go (some k) h = picked k (same_number k n) refl h
 
 -- ---- a radius
 
 module _ (r : ℤ) where
-  pub radius_low : lt_z r (pos 0) ≡ true → NotExact r ≡ width_back_of r
+  pub radius_low : lt_z r (pos 0) ≡ true → Err r ≡ width_back_of r
   unfolding width_back_of
   radius_low a = rw (a, width_back_of)
 
   module _ (a : lt_z r (pos 0) ≡ false) where
-    pub radius_high : lt_z (pos 268435456) r ≡ true → NotExact r ≡ width_back_of r
+    pub radius_high : lt_z (pos 268435456) r ≡ true → Err r ≡ width_back_of r
     unfolding width_back_of
     radius_high b = rw (a, b, width_back_of)
 
@@ -87,15 +88,10 @@ pub width_written : {k d n : ℤ} {x : Float} {t : Taken} → lt_z n (pos 0) ≡
 width_written {n = n} a b e d f g = rw (g, f, d, e) (radius_inside n a b)
 
 -- what is answered as a whole number is one
-pub whole_is : (t : Taken) (n : ℤ) → whole_in t ≡ some n → t ≡ Whole n
+pub whole_is : (t : Taken) (n : ℤ) → whole_in t ≡ some n → t ≡ Ok n
 unfolding whole_in
-whole_is (Whole k) n h = ap Whole (let q : some k ≡ some n = h in cc)
-whole_is (NotANumber x) n h = absurd (let z : ◌≡◌ {A = ℕ} 0 1 = cc in omega arith)
-whole_is (Infinite x) n h = absurd (let z : ◌≡◌ {A = ℕ} 0 1 = cc in omega arith)
-whole_is (Fraction x) n h = absurd (let z : ◌≡◌ {A = ℕ} 0 1 = cc in omega arith)
-whole_is (TooLarge x) n h = absurd (let z : ◌≡◌ {A = ℕ} 0 1 = cc in omega arith)
-whole_is (NegativeWidth x) n h = absurd (let z : ◌≡◌ {A = ℕ} 0 1 = cc in omega arith)
-whole_is (OddWidth x) n h = absurd (let z : ◌≡◌ {A = ℕ} 0 1 = cc in omega arith)
+whole_is (Ok k) n h = ap Ok (let q : some k ≡ some n = h in cc)
+whole_is (Err why) n h = absurd (let z : ◌≡◌ {A = ℕ} 0 1 = cc in omega arith)
 
 -- ---- zero for minus zero changes nothing that is asked
 
@@ -130,41 +126,41 @@ nearest_to (fin s m e) f k w = nearest_plain s m e f w.whole (le_trans w.within 
 -- ---- there and back, one number
 
 module _ (x : Float) (f : Fits32 x) where
-  pub coordinate_there : (n : ℤ) → coordinate_of x ≡ Whole n → coordinate_back_of n ≡ Exact (plain_zero x)
+  pub coordinate_there : (n : ℤ) → coordinate_of x ≡ Ok n → coordinate_back_of n ≡ Ok (plain_zero x)
   unfolding coordinate_back_of
   coordinate_there n h =
       let w = coordinate_says x n h in
       let p : of_int binary32 n ≡ plain_zero x = ap (of_int binary32) (sym w.1) ∙ nearest_to x f (omega arith) w.0 in
-      let t : coordinate_of (plain_zero x) ≡ Whole n = coordinate_taken (plain_zero x) (plain_whole x w.0) ∙ ap Whole (plain-number x ∙ w.1) in
+      let t : coordinate_of (plain_zero x) ≡ Ok n = coordinate_taken (plain_zero x) (plain_whole x w.0) ∙ ap Ok (plain-number x ∙ w.1) in
       rw p (sym (same_back n (plain_zero x) (coordinate_of (plain_zero x)) t refl))
 
-  pub width_there : (r : ℤ) → width_of x ≡ Whole r → width_back_of r ≡ Exact (plain_zero x)
+  pub width_there : (r : ℤ) → width_of x ≡ Ok r → width_back_of r ≡ Ok (plain_zero x)
   unfolding width_back_of
   width_there r h =
       let w = width_says x r h in
       let d : pos 2 *ℤ r ≡ whole_of x =
       ap (λ (z : ℤ). pos 2 *ℤ z) (sym w.1) ∙ pos-*ℤ-pos 2 (magnitude_of x / 2) ∙ ap pos (doubled w.0.even) ∙ sym (no_sign (whole_of x) w.0.positive ∙ ap pos (size_is x)) in
       let p : of_int binary32 (pos 2 *ℤ r) ≡ plain_zero x = ap (of_int binary32) d ∙ nearest_to x f (omega arith) w.0.is_whole in
-      let t : width_of (plain_zero x) ≡ Whole r = width_taken (plain_zero x) (plain_width x w.0) ∙ ap (λ (n : ℕ). Whole (pos (n / 2))) (plain_size x) ∙ ap Whole w.1 in
+      let t : width_of (plain_zero x) ≡ Ok r = width_taken (plain_zero x) (plain_width x w.0) ∙ ap (λ (n : ℕ). Ok (pos (n / 2))) (plain_size x) ∙ ap Ok w.1 in
       sym (radius_inside r (rw (← w.1) (le-ltb (magnitude_of x / 2) 0 (omega arith))) (rw (← w.1) (le-ltb 268435456 (magnitude_of x / 2) (omega (arith, w.0.is_whole.within)))))
       ∙ rw p (sym (same_back r (plain_zero x) (width_of (plain_zero x)) t refl))
     where
       doubled : magnitude_of x % 2 ≡ 0 → 2 * (magnitude_of x / 2) ≡ magnitude_of x
       doubled e = omega arith
 
-pub coordinate_back : (n : ℤ) (x : Float) → coordinate_back_of n ≡ Exact x → coordinate_of x ≡ Whole n
+pub coordinate_back : (n : ℤ) (x : Float) → coordinate_back_of n ≡ Ok x → coordinate_of x ≡ Ok n
 unfolding coordinate_back_of
 coordinate_back n x h =
     let p = back_says n (of_int binary32 n) (coordinate_of (of_int binary32 n)) x h in
     ap coordinate_of (sym p.0) ∙ whole_is (coordinate_of (of_int binary32 n)) n p.1
 
-pub width_back : (r : ℤ) (x : Float) → width_back_of r ≡ Exact x → width_of x ≡ Whole r
+pub width_back : (r : ℤ) (x : Float) → width_back_of r ≡ Ok x → width_of x ≡ Ok r
 width_back r x h = go (lt_z r (pos 0)) (lt_z (pos 268435456) r) refl refl
   where
-    differ : NotExact r ≡ Exact x → ⊥
+    differ : Err r ≡ Ok x → ⊥
     differ e = let z : ◌≡◌ {A = ℕ} 0 1 = cc in omega arith
 
-    go : (a b : Bool) → lt_z r (pos 0) ≡ a → lt_z (pos 268435456) r ≡ b → width_of x ≡ Whole r
+    go : (a b : Bool) → lt_z r (pos 0) ≡ a → lt_z (pos 268435456) r ≡ b → width_of x ≡ Ok r
     go true b ea eb = absurd (differ (radius_low r ea ∙ h))
     go false true ea eb = absurd (differ (radius_high r ea eb ∙ h))
     go false false ea eb =
@@ -174,18 +170,18 @@ width_back r x h = go (lt_z r (pos 0)) (lt_z (pos 268435456) r) refl refl
 -- ---- the float of a number that the code has passed on
 
 module _ {m n : ℤ} (e : m ≡ n) {w : Written} where
-  pub coordinate_some : {x : Float} → w ≡ coordinate_back_of m → w ≡ Exact x → coordinate_out n ≡ some x
+  pub coordinate_some : {x : Float} → w ≡ coordinate_back_of m → w ≡ Ok x → coordinate_out n ≡ some x
   unfolding coordinate_out float_in
   coordinate_some f h = ap float_in (ap coordinate_back_of (sym e) ∙ sym f ∙ h)
 
-  pub coordinate_not : {k : ℤ} → w ≡ coordinate_back_of m → w ≡ NotExact k → coordinate_out n ≡ none
+  pub coordinate_not : {k : ℤ} → w ≡ coordinate_back_of m → w ≡ Err k → coordinate_out n ≡ none
   unfolding coordinate_out float_in
   coordinate_not f h = ap float_in (ap coordinate_back_of (sym e) ∙ sym f ∙ h)
 
-  pub width_some : {x : Float} → w ≡ width_back_of m → w ≡ Exact x → width_out n ≡ some x
+  pub width_some : {x : Float} → w ≡ width_back_of m → w ≡ Ok x → width_out n ≡ some x
   unfolding width_out float_in
   width_some f h = ap float_in (ap width_back_of (sym e) ∙ sym f ∙ h)
 
-  pub width_not : {k : ℤ} → w ≡ width_back_of m → w ≡ NotExact k → width_out n ≡ none
+  pub width_not : {k : ℤ} → w ≡ width_back_of m → w ≡ Err k → width_out n ≡ none
   unfolding width_out float_in
   width_not f h = ap float_in (ap width_back_of (sym e) ∙ sym f ∙ h)

@@ -3,11 +3,10 @@ use Rattle.std.proofs.Common.{◌≡◌, ℕ, zero, suc, ◌+◌, ◌/◌, ◌<�
 use mathlib.Core.Option.{some}
 use lib.Ieee.{Float}
 use Rattle.replies.specs.Replies.{first_row}
+use Rattle.std.specs.Prelude.{Ok}
 use Rattle.oldest.specs.Floats.{magnitude_of, whole_of}
-use Rattle.oldest.specs.Taken.{reasons, width_reasons, whole_within, coordinate_of, width_of, reason_of, refused_in}
+use Rattle.oldest.specs.Taken.{Taken, reasons, width_reasons, whole_within, coordinate_of, width_of, reason_of, refused_in}
 use Rattle.oldest.specs.Theorems.{CoordinateTaken, WidthTaken, FirstReason, tests, CoordinateReason, WidthReason}
-use Rattle.oldest.specs.declared.Taken.{Taken}
-use Rattle.oldest.specs.declared.Taken.TheVariants.{Whole}
 use Rattle.oldest.proofs.Reasons.{coordinate_taken, coordinate_says, width_taken, width_says}
 
 pub coordinate_is_taken : CoordinateTaken
@@ -62,11 +61,11 @@ module _ (i : ℕ) (bs : List Bool) (x : Float) (t : Taken) where
       before (suc k) h zero l = refl
       before (suc k) h (suc j) l = r.first k (omega (arith, h)) j (omega (arith, l))
 
-from_rows : (i : ℕ) (x : Float) (n : ℤ) (rows : List (Bool × Taken)) → Numbered i x rows → From i (tests rows) x (first_row rows (Whole n))
+from_rows : (i : ℕ) (x : Float) (n : ℤ) (rows : List (Bool × Taken)) → Numbered i x rows → From i (tests rows) x (first_row rows (Ok n))
 unfolding first_row reason_of
 from_rows i x n [] h = record { taken = λ e j. refl; holds = λ k e. absurd (omega (arith, e)); first = λ k e j l. refl; itself = λ k e. absurd (omega (arith, e)); least = λ k e. absurd (omega (arith, e)) }
 from_rows i x n ((true, t) ∷ rows) h = here i (tests rows) x t h.0 h.1
-from_rows i x n ((false, t) ∷ rows) h = later i (tests rows) x (first_row rows (Whole n)) (from_rows (suc i) x n rows h.2)
+from_rows i x n ((false, t) ∷ rows) h = later i (tests rows) x (first_row rows (Ok n)) (from_rows (suc i) x n rows h.2)
 
 first_reason : {bs : List Bool} {x : Float} {t : Taken} → From 0 bs x t → FirstReason bs x t
 first_reason r = record {

@@ -5,13 +5,8 @@ use mathlib.Core.Option.{Option}
 use Rattle.runs.proofs.Written.{over_whole}
 use Rattle.replies.specs.Replies.{Reply, first_row, triples_row, count_row, room_row, written}
 use Rattle.oldest.specs.Calls.{in_threes, taken_of, untaken_row, pass_reply, pass_out}
-use Rattle.oldest.specs.Converts.{Converts}
+use Rattle.oldest.specs.Converts.{Converts, Passes}
 use Rattle.oldest.proofs.Walking.{taken_most, threes_length}
-
--- a reply to the numbers lent, and the room as it was and as it is
-pub record Passes {A B : Type 0} (f g : A → Option B) (l : List A) (out₀ : List B) (told : Reply) (out₁ : List B) : Type 0 where
-  pub reply : told ≡ pass_reply f g l (length out₀)
-  pub out : out₁ ≡ pass_out f g l out₀
 
 module _ {A B : Type 0} (f g : A → Option B) (l : List A) (out : List B) where
   refused : {k n : ℕ} → eqb k 0 ≡ false → (k, n) ≡ pass_reply f g l (length out) → Passes f g l out (k, n) out

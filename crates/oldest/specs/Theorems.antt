@@ -1,19 +1,15 @@
 -- Document 02, request 5, theorems over the definitions: when a float is taken, with which reason it is refused, one outcome for each
 -- call, and that the calls undo each other.
-use Rattle.std.specs.Prelude.{◌≡◌, ℕ, suc, ◌/◌, ◌%◌, ◌<◌, ◌≤◌, Bool, true, false, List, [], ◌∷◌, ◌++◌, map, length, take, drop, ℤ, pos, int_lt, is_nan, slice_index_or, Float}
+use Rattle.std.specs.Prelude.{◌≡◌, ℕ, suc, ◌/◌, ◌%◌, ◌<◌, ◌≤◌, Bool, true, false, List, [], ◌∷◌, ◌++◌, map, length, take, drop, ℤ, pos, int_lt, is_nan, slice_index_or, Float, Result, Ok}
 use Rattle.std.proofs.Math.Option.{some}
 use Rattle.std.specs.Float.{binary32}
 use Rattle.std.specs.Float.Ieee.{fits}
 use Rattle.oldest.specs.Floats.{is_infinite, has_fraction, magnitude_of, whole_of, plain_zero}
-use Rattle.oldest.specs.Taken.{reasons, width_reasons, coordinate_of, width_of, reason_of, refused_in}
+use Rattle.oldest.specs.Taken.{Taken, reasons, width_reasons, coordinate_of, width_of, reason_of, refused_in}
 use Rattle.oldest.specs.Written.{coordinate_back_of, width_back_of}
 use Rattle.oldest.specs.Calls.{import_reply, import_out, export_reply, export_out}
 use Rattle.oldest.specs.Answers.{Imports, Exports}
-use Rattle.oldest.specs.declared.Taken.{Taken}
-use Rattle.oldest.specs.declared.Taken.TheVariants.{Whole}
-use Rattle.oldest.specs.declared.Written.TheVariants.{Exact}
-use Rattle.oldest.specs.declared.Imported.{Imported}
-use Rattle.oldest.specs.declared.Exported.{Exported}
+use Rattle.replies.specs.declared.Refusal.{Refusal}
 
 -- ---- one float
 
@@ -32,11 +28,11 @@ pub record IsWidth (x : Float) : Type 0 where
 
 -- A coordinate is taken exactly if it is a whole number within the limits, and as that number.
 abbrev pub CoordinateTaken : Type 0
-CoordinateTaken = (x : Float) → (IsWhole 268435456 x → coordinate_of x ≡ Whole (whole_of x)) × ((n : ℤ) → coordinate_of x ≡ Whole n → IsWhole 268435456 x × (whole_of x ≡ n))
+CoordinateTaken = (x : Float) → (IsWhole 268435456 x → coordinate_of x ≡ Ok (whole_of x)) × ((n : ℤ) → coordinate_of x ≡ Ok n → IsWhole 268435456 x × (whole_of x ≡ n))
 
 -- A width is taken exactly if it is an even whole number from 0 to 536,870,912, and as half of it.
 abbrev pub WidthTaken : Type 0
-WidthTaken = (x : Float) → (IsWidth x → width_of x ≡ Whole (pos (magnitude_of x / 2))) × ((r : ℤ) → width_of x ≡ Whole r → IsWidth x × (pos (magnitude_of x / 2) ≡ r))
+WidthTaken = (x : Float) → (IsWidth x → width_of x ≡ Ok (pos (magnitude_of x / 2))) × ((r : ℤ) → width_of x ≡ Ok r → IsWidth x × (pos (magnitude_of x / 2) ≡ r))
 
 -- An answer t to the float x, after tests in order: taken if no test holds; else x itself, with the number, from 1, of the first that does.
 pub record FirstReason (tests : List Bool) (x : Float) (t : Taken) : Type 0 where
@@ -60,19 +56,19 @@ Fits32 x = fits binary32 x ≡ true
 
 -- A number is written as a float exactly if some float is taken as it, and as that float, minus zero apart; what is written is taken back.
 abbrev pub CoordinateWritten : Type 0
-CoordinateWritten = (n : ℤ) (x : Float) → (Fits32 x → coordinate_of x ≡ Whole n → coordinate_back_of n ≡ Exact (plain_zero x)) × (coordinate_back_of n ≡ Exact x → coordinate_of x ≡ Whole n)
+CoordinateWritten = (n : ℤ) (x : Float) → (Fits32 x → coordinate_of x ≡ Ok n → coordinate_back_of n ≡ Ok (plain_zero x)) × (coordinate_back_of n ≡ Ok x → coordinate_of x ≡ Ok n)
 
 abbrev pub WidthWritten : Type 0
-WidthWritten = (r : ℤ) (x : Float) → (Fits32 x → width_of x ≡ Whole r → width_back_of r ≡ Exact (plain_zero x)) × (width_back_of r ≡ Exact x → width_of x ≡ Whole r)
+WidthWritten = (r : ℤ) (x : Float) → (Fits32 x → width_of x ≡ Ok r → width_back_of r ≡ Ok (plain_zero x)) × (width_back_of r ≡ Ok x → width_of x ≡ Ok r)
 
 -- ---- the calls
 
 -- Each call has one outcome: two that its promise allows coincide.
 abbrev pub OneImport : Type 0
-OneImport = (floats : List Float) (out : List ℤ) (r q : Imported) (o p : List ℤ) → Imports floats out r o → Imports floats out q p → (r ≡ q) × (o ≡ p)
+OneImport = (floats : List Float) (out : List ℤ) (r q : Result ℕ Refusal) (o p : List ℤ) → Imports floats out r o → Imports floats out q p → (r ≡ q) × (o ≡ p)
 
 abbrev pub OneExport : Type 0
-OneExport = (numbers : List ℤ) (out : List Float) (r q : Exported) (o p : List Float) → Exports numbers out r o → Exports numbers out q p → (r ≡ q) × (o ≡ p)
+OneExport = (numbers : List ℤ) (out : List Float) (r q : Result ℕ Refusal) (o p : List Float) → Exports numbers out r o → Exports numbers out q p → (r ≡ q) × (o ≡ p)
 
 abbrev pub Every : {A : Type 0} → (A → Type 0) → List A → Type 0
 Every P [] = Unit {0}

@@ -13,7 +13,6 @@ use borrow.Author.Tests.{eq-eqb, eqb-true, eqb-false}
 use Rattle.runs.specs.Runs.{spread}
 use Rattle.contacts.specs.declared.Vertex.{Vertex}
 use Rattle.outline.specs.Layout.{count_place, stroke_words, stroke_bytes, edition_word, kind_word, front_bytes, length_of}
-use Rattle.outline.specs.declared.Edition.{Edition}
 use Rattle.outline.specs.declared.Edition.TheVariants.{First, Second}
 use Rattle.outline.specs.declared.Form.{Form}
 use Rattle.outline.specs.declared.Form.TheVariants.{Stroke, Kerb}

@@ -9,7 +9,6 @@ use lib.ListN.{get_or}
 use lib.Seq.{get_or-drop}
 use Rattle.words.specs.Words.{words_in, word_at}
 use Rattle.outline.specs.Stores.{post_in, post_at}
-use Rattle.kerb.specs.declared.Style.{Style}
 use Rattle.outline.specs.Layout.{count_place, stroke_words, stroke_bytes, front_bytes, length_of}
 use Rattle.outline.specs.declared.Form.{Form}
 use Rattle.outline.specs.declared.Form.TheVariants.{Stroke, Kerb}
@@ -29,11 +28,6 @@ pub entry_more : (e : Edition) (n : ℕ) → stroke_words e * (n + 1) ≡ stroke
 unfolding stroke_words count_place
 entry_more First n = omega arith
 entry_more Second n = omega arith
-
-pub entry_next : (e : Edition) (n : ℕ) → stroke_bytes e * (n + 1) ≡ stroke_bytes e * n + stroke_bytes e
-unfolding stroke_bytes stroke_words count_place
-entry_next First n = omega arith
-entry_next Second n = omega arith
 
 -- an entry has at most 20 bytes, and at least 16
 pub entry_most : (e : Edition) → (16 ≤ stroke_bytes e) × (stroke_bytes e ≤ 20)
@@ -64,12 +58,6 @@ post_word s k q h = rw q (h ∙ sym (get_or-drop (5 + 5 * k) (words_in s) 3 0 �
 pub post_inside : {e : Edition} (k l : ℕ) → e ≡ Second → 20 + (stroke_bytes e * k + stroke_bytes e) ≤ l → 20 + (20 * k + 20) ≤ l
 unfolding stroke_bytes stroke_words count_place
 post_inside k l q h = rw q at h
-
-pub front_stroke : {f : Form} {e : Edition} (n b : ℕ) → f ≡ Stroke e → b ≡ stroke_bytes e → front_bytes f n ≡ 24 + b * n
-front_stroke n b q r = rw (q, r) refl
-
-pub front_kerb : {f : Form} {y : Style} (n : ℕ) → f ≡ Kerb y → front_bytes f n ≡ 44 + 8 * n
-front_kerb n e = rw e refl
 
 -- no length wraps
 pub length_small : (f : Form) (n m : ℕ) → n ≤ 4096 → m < 2 ^ 32 → length_of f n m < 2 ^ 64

@@ -9,7 +9,7 @@ use native.Mathlib.Numerals.{add-one}
 use native.Mathlib.Omega.{arith}
 use lib.Dec.{eqb}
 use lib.IntN.{ℤ, pos, negsuc}
-use lib.ListN.{length, get_or, take, drop, replicate, length-append, length-replicate, take-append-drop}
+use lib.ListN.{length, get_or, take, drop, length-append, length-replicate, take-append-drop}
 use lib.Seq.{get_or-drop, drop-drop, take-append_seam}
 use borrow.Author.Tests.{eq-eqb, eqb-true}
 use Rattle.runs.specs.Runs.{spread}

@@ -1,15 +1,15 @@
 -- The posts of a store into lent numbers, one by one. Assumes nothing.
 use mathlib.Core.Path.{◌≡◌, refl, sym, ap, ◌∙◌}
 use mathlib.Core.List.{List, [], ◌∷◌, ◌++◌}
-use Prim.Native.Nat.{ℕ, zero, suc, ◌+◌, ◌^◌, ◌≤◌, ◌<◌}
+use Prim.Native.Nat.{ℕ, ◌+◌, ◌≤◌, ◌<◌}
 use native.Mathlib.Numerals.{add-one}
 use native.Mathlib.Omega.{arith}
-use lib.ListN.{length, get_or, set, take, drop, drop_of_length-le}
+use lib.ListN.{length, set, take, drop, drop_of_length-le}
 use lib.Seq.{drop-cons, take_at}
-use Rattle.runs.specs.Runs.{spread, over, Runs, put}
+use Rattle.runs.specs.Runs.{spread, over, put}
 use Rattle.runs.proofs.Laws.{runs_none}
-use Rattle.runs.proofs.Onward.{Onward, onward_start, onward_step, onward_as, onward_done}
-use Rattle.runs.proofs.Written.{written_whole, onward_length}
+use Rattle.runs.proofs.Onward.{Onward, onward_step, onward_as, onward_done}
+use Rattle.runs.proofs.Written.{written_whole}
 use Rattle.outline.specs.Stores.{posts_of, post_at}
 use Rattle.outline.specs.declared.Edition.{Edition}
 use Rattle.outline.specs.declared.Form.TheVariants.{Stroke}
@@ -33,13 +33,7 @@ module _ (e : Edition) (s : List ℕ) (n : ℕ) where
   long : length (posts_of (Stroke e) n s) ≡ n
   long = posts_count e n _
 
-  pub posts_start : (l : List ℕ) → PostsOn e s n l l 0
-  posts_start l = record { on = onward_start; few = omega arith }
-
   module _ {l₀ l : List ℕ} {k : ℕ} (p : PostsOn e s n l₀ l k) where
-    pub posts_length : length l ≡ length l₀
-    posts_length = onward_length p.on
-
     pub posts_step : {w : ℕ} → k < n → w ≡ post_at e s k → PostsOn e s n l₀ (set l k w) (k + 1)
     unfolding one_post spread over
     posts_step {w} h q =

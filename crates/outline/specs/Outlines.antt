@@ -1,5 +1,5 @@
 -- Document 01, "The kept outline", and document 02, requests 3 and 11: the words of an outline, and its bytes.
-use Rattle.std.specs.Prelude.{Bool, true, false, List, [], ◌∷◌, ◌++◌, ℕ, ◌+◌, length, get_or, drop}
+use Rattle.std.specs.Prelude.{Bool, true, false, List, [], ◌∷◌, ◌++◌, ℕ, length, get_or, drop}
 use Rattle.runs.specs.Runs.{spread}
 use Rattle.turning.specs.Edges.{edge_numbers}
 use Rattle.turning.specs.declared.Edge.{Edge}

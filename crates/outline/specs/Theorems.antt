@@ -1,5 +1,5 @@
 -- Theorems over the definitions: what is kept is sound and says its own path, and a path has one outline.
-use Rattle.std.specs.Prelude.{◌≡◌, true, false, List, [], ◌∷◌, ◌++◌, ℕ, ◌+◌, ◌^◌, ◌≤◌, ◌<◌, ℤ, length, get_or, replicate}
+use Rattle.std.specs.Prelude.{◌≡◌, true, false, List, [], ◌∷◌, ◌++◌, ℕ, ◌^◌, ◌≤◌, ◌<◌, ℤ, length, get_or, replicate}
 use Rattle.paths.specs.Paths.{Within}
 use Rattle.contacts.specs.declared.Vertex.{Vertex}
 use Rattle.turning.specs.Bounds.{Radius}

@@ -38,107 +38,110 @@ pub const LEAST: usize = HEADER + 4;
 
 pub const KERB_LEAST: usize = KERB_HEADER + 12;
 
-// Words of a vertex's entry in an edition, and its bytes.
-pub fn entry_words(edition: Edition) -> usize
-    ensures { result ≡ stroke_words edition }
-{
-    match edition {
-        Edition::First => 4,
-        Edition::Second => 5,
+impl Edition {
+    // The edition of a word that is one's number. A caller has passed the row of editions before, so no other word comes, and no TryFrom
+    // stands here: its error would be one that nobody meets.
+    pub fn of(word: u32) -> Edition
+        ensures { result ≡ edition_of word }
+    {
+        if word == SECOND_EDITION {
+            Edition::Second
+        } else {
+            Edition::First
+        }
     }
-}
 
-pub fn entry_bytes(edition: Edition) -> usize
-    ensures { result ≡ stroke_bytes edition }
-{
-    match edition {
-        Edition::First => 16,
-        Edition::Second => 20,
+    // Words of a vertex's entry, and its bytes.
+    pub fn entry_words(self) -> usize
+        ensures { result ≡ stroke_words self }
+    {
+        match self {
+            Edition::First => 4,
+            Edition::Second => 5,
+        }
+    }
+
+    pub fn entry_bytes(self) -> usize
+        ensures { result ≡ stroke_bytes self }
+    {
+        match self {
+            Edition::First => 16,
+            Edition::Second => 20,
+        }
     }
 }
 
 // An edition's number.
-pub fn edition_number(edition: Edition) -> u32
-    ensures { result ≡ edition_number edition }
-{
-    match edition {
-        Edition::First => FIRST_EDITION,
-        Edition::Second => SECOND_EDITION,
+impl From<Edition> for u32 {
+    ghost from_gives = { λ edition number. number ≡ edition_number edition };
+
+    fn from(edition: Edition) -> u32 {
+        match edition {
+            Edition::First => FIRST_EDITION,
+            Edition::Second => SECOND_EDITION,
+        }
     }
 }
 
-// The edition of a number that is one.
-pub fn edition_of(word: u32) -> Edition
-    ensures { result ≡ edition_of word }
-{
-    if word == SECOND_EDITION {
-        return Edition::Second;
-    }
-    Edition::First
-}
-
-// The edition of a form: a kerb's is the first.
-pub fn edition_word(form: Form) -> u32
-    ensures { result ≡ edition_word form }
-{
-    match form {
-        Form::Stroke(e) => edition_number(e),
-        Form::Kerb(_) => FIRST_EDITION,
-    }
-}
-
-// The kind of a form.
-pub fn kind_word(form: Form) -> u32
-    ensures { result ≡ kind_word form }
-{
-    match form {
-        Form::Stroke(_) => STROKE_KIND,
-        Form::Kerb(_) => KERB_KIND,
-    }
-}
-
-// A join's word, and whether a kerb is closed as one.
+// A join's word, and whether a kerb is closed as one: what `kerb` declares knows nothing of words that are kept.
 pub fn join_word(join: Join) -> u32
     ensures { result ≡ join_word join }
 {
-    match join {
-        Join::Bevel => 0,
-        Join::Round => 1,
-    }
+    join as u32
 }
 
 pub fn closed_word(closed: bool) -> u32
     ensures { result ≡ closed_word closed }
 {
-    if closed { 1 } else { 0 }
+    u32::from(closed)
 }
 
-// Bytes of a form's header.
-pub fn header_bytes(form: Form) -> usize
-    ensures { result ≡ header_bytes form }
-{
-    match form {
-        Form::Stroke(_) => HEADER,
-        Form::Kerb(_) => KERB_HEADER,
+impl Form {
+    // The number of its edition: a kerb's is the first.
+    pub fn edition_word(self) -> u32
+        ensures { result ≡ edition_word self }
+    {
+        match self {
+            Form::Stroke(edition) => u32::from(edition),
+            Form::Kerb(_) => FIRST_EDITION,
+        }
     }
-}
 
-// Bytes before the bodies: header, n entries and the counts.
-pub fn front(form: Form, n: usize) -> usize
-    requires { front_bytes form n < 2 ^ 64 }
-    ensures { result ≡ front_bytes form n }
-{
-    match form {
-        Form::Stroke(e) => LEAST + entry_bytes(e) * n,
-        Form::Kerb(_) => KERB_LEAST + KERB_ENTRY * n,
+    pub fn kind_word(self) -> u32
+        ensures { result ≡ kind_word self }
+    {
+        match self {
+            Form::Stroke(_) => STROKE_KIND,
+            Form::Kerb(_) => KERB_KIND,
+        }
     }
-}
 
-// Bytes of an outline with n vertices and m edges.
-pub fn whole_length(form: Form, n: usize, m: usize) -> usize
-    requires { length_of form n m < 2 ^ 64 }
-    ensures { result ≡ length_of form n m }
-{
-    let base = front(form, n);
-    base + EDGE * m
+    // Bytes of the header.
+    pub fn header_bytes(self) -> usize
+        ensures { result ≡ header_bytes self }
+    {
+        match self {
+            Form::Stroke(_) => HEADER,
+            Form::Kerb(_) => KERB_HEADER,
+        }
+    }
+
+    // Bytes before the bodies: header, n entries and the counts.
+    pub fn front(self, n: usize) -> usize
+        requires { front_bytes self n < 2 ^ 64 }
+        ensures { result ≡ front_bytes self n }
+    {
+        match self {
+            Form::Stroke(edition) => LEAST + edition.entry_bytes() * n,
+            Form::Kerb(_) => KERB_LEAST + KERB_ENTRY * n,
+        }
+    }
+
+    // Bytes of an outline with n vertices and m edges.
+    pub fn whole_length(self, n: usize, m: usize) -> usize
+        requires { length_of self n m < 2 ^ 64 }
+        ensures { result ≡ length_of self n m }
+    {
+        self.front(n) + EDGE * m
+    }
 }

@@ -7,7 +7,7 @@ pub mod layout;
 pub mod posts;
 
 // The editions of a stroke's outline: the second has a point number in each vertex's entry.
-#[derive(Clone, Copy)]
+#[derive(Clone, Copy, PartialEq, Eq, Debug)]
 pub enum Edition {
     First,
     Second,

@@ -23,10 +23,7 @@ pub fn show_posts(s: &[u8], edition: Edition, n: usize, out: &mut [u32])
     requires { (front_bytes (Stroke edition) n ≤ length s.now) × (n ≤ length out.old) }
     ensures { out.new ≡ posts_of (Stroke edition) n s.now ++ drop n out.old }
 {
-    let mut k: usize = 0;
-    while k < n {
-        let p = post_at(s, edition, k);
-        out[k] = p;
-        k += 1;
+    for k in 0..n {
+        out[k] = post_at(s, edition, k);
     }
 }

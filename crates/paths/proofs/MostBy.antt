@@ -1,4 +1,5 @@
 -- How many edges each rule can give, from the most that an arc has: of a step twice as many and two. Assumes nothing.
+use Rattle.std.specs.Prelude.{Option, Some, None}
 use mathlib.Core.Bool.{Bool, true, false, ◌||◌}
 use mathlib.Core.List.{List, [], ◌∷◌, ◌++◌}
 use Prim.Native.Nat.{ℕ, ◌+◌, ◌*◌, ◌≤◌}
@@ -24,8 +25,6 @@ use Rattle.contacts.specs.declared.Kind.{Kind}
 use Rattle.contacts.specs.declared.Kind.TheVariants.{Broken, Drawn, Thin}
 use Rattle.joins.specs.declared.Cap.{Cap}
 use Rattle.joins.specs.declared.Cap.TheVariants.{Butt, Round}
-use Rattle.contacts.specs.declared.Last.{Last}
-use Rattle.contacts.specs.declared.Last.TheVariants.{Nothing, Held}
 use Rattle.variable_stroke.specs.declared.Chain.{Chain}
 use Rattle.variable_stroke.specs.declared.Walk.{Walk}
 
@@ -70,19 +69,19 @@ module _ (t : Vector) (a : ℕ) (low : 1 ≤ a) (circles : (c : Point) (r : ℤ)
   unfolding lone_of
   lone_by c k = most_if (c.mark || both_butt c.cap k) (most_none a) (circles _ _)
 
-  last_by : (l : Last) (c : Chain) (k : Cap) → Most a (finish_last t l c k)
+  last_by : (l : Option Section) (c : Chain) (k : Cap) → Most a (finish_last t l c k)
   unfolding finish_last
-  last_by (Held s) c k = end_by s k
-  last_by Nothing c k = lone_by c k
+  last_by (Some s) c k = end_by s k
+  last_by None c k = lone_by c k
 
   pub finish_by : (c : Chain) (k : Cap) → Most a (finish_of t c k)
   unfolding finish_of
   finish_by c k = last_by c.last c k
 
-  meet_by : (l : Last) (k : Cap) (s : Section) → Most (a + a) (meet_last t l k s)
+  meet_by : (l : Option Section) (k : Cap) (s : Section) → Most (a + a) (meet_last t l k s)
   unfolding meet_last
-  meet_by (Held m) k s = join_by m s
-  meet_by Nothing k s = most_up (omega arith) (start_by s k)
+  meet_by (Some m) k s = join_by m s
+  meet_by None k s = most_up (omega arith) (start_by s k)
 
   drawn_by : (c : Chain) (s : Section) → Most (1 + (1 + (a + a))) (drawn_of t c s)
   unfolding drawn_of

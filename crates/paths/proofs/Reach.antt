@@ -1,4 +1,5 @@
 -- How far out the edges of a path can end: contacts and inner points lie about vertices within the limits. Assumes nothing.
+use Rattle.std.specs.Prelude.{Option, Some, None}
 use mathlib.Core.Path.{◌≡◌, refl}
 use mathlib.Core.Bool.{Bool, true, false, ◌||◌}
 use mathlib.Core.List.{List, [], ◌∷◌, ◌++◌}
@@ -31,8 +32,6 @@ use Rattle.contacts.specs.declared.Kind.{Kind}
 use Rattle.contacts.specs.declared.Kind.TheVariants.{Broken, Drawn, Thin}
 use Rattle.joins.specs.declared.Cap.{Cap}
 use Rattle.joins.specs.declared.Cap.TheVariants.{Butt, Round}
-use Rattle.contacts.specs.declared.Last.{Last}
-use Rattle.contacts.specs.declared.Last.TheVariants.{Nothing, Held}
 use Rattle.variable_stroke.specs.declared.Chain.{Chain}
 use Rattle.variable_stroke.specs.declared.Walk.{Walk}
 use Rattle.plane.specs.Vectors.{from_to}
@@ -74,19 +73,19 @@ module _ (t : Vector) (u : UnitLong t) where
       (λ e. all_reach_append _ _ (left_join_reach m n e h k) (right_join_reach m n e h k))
       (λ _. all_reach_append _ _ (end_reach m Butt h) (start_reach n Butt k))
 
-  finish_last_lem : (l : Last) (c : Chain) (k : Cap) → AroundLast l → AroundChain c → AllReach (finish_last t l c k)
+  finish_last_lem : (l : Option Section) (c : Chain) (k : Cap) → AroundLast l → AroundChain c → AllReach (finish_last t l c k)
   unfolding finish_last lone_of AroundLast
-  finish_last_lem (Held s) c k h i = end_reach s k h
-  finish_last_lem Nothing c k h i = all_reach_if (c.mark || both_butt c.cap k) _ _ (λ _. all_reach_none) (λ _. circle_reach t _ _ u (centre_is i.start) i.start.radius)
+  finish_last_lem (Some s) c k h i = end_reach s k h
+  finish_last_lem None c k h i = all_reach_if (c.mark || both_butt c.cap k) _ _ (λ _. all_reach_none) (λ _. circle_reach t _ _ u (centre_is i.start) i.start.radius)
 
   finish_reach : (c : Chain) (k : Cap) → AroundChain c → AllReach (finish_of t c k)
   unfolding finish_of
   finish_reach c k h = finish_last_lem c.last c k h.last h
 
-  meet_reach : (l : Last) (k : Cap) (s : Section) → AroundLast l → Around s → AllReach (meet_last t l k s)
+  meet_reach : (l : Option Section) (k : Cap) (s : Section) → AroundLast l → Around s → AllReach (meet_last t l k s)
   unfolding meet_last AroundLast
-  meet_reach (Held m) k s h i = join_reach m s h i
-  meet_reach Nothing k s h i = start_reach s k i
+  meet_reach (Some m) k s h i = join_reach m s h i
+  meet_reach None k s h i = start_reach s k i
 
   drawn_reach : (c : Chain) (s : Section) → AroundChain c → Around s → AllReach (drawn_of t c s)
   unfolding drawn_of

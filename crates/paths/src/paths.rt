@@ -1,4 +1,5 @@
-// Paths in lent numbers, three a vertex, and the walk over one: it counts and it writes.
+// Paths in lent numbers, three a vertex, and the walk over one: it counts and it writes. Beside a path n is how many vertices it has, so it is no length
+// of the slice.
 ghost use Rattle.std.specs.Prelude.{◌≡◌, ◌≤◌, ◌<◌, length, get_or, drop};
 ghost use Rattle.runs.specs.Runs.{Runs, Room, put};
 ghost use Rattle.plane.specs.Directions.{UnitLong};
@@ -14,23 +15,17 @@ use folds::Pen;
 use plane::Vector;
 use variable_stroke::Walk;
 
-// A number with more room.
-pub fn wide(x: i32) -> i64
-    ensures { result ≡ x }
-{
-    x as i64
-}
-
 // The k-th vertex of a path.
 pub fn vertex(path: &[i32], k: usize) -> Vertex
     requires { k < length (path_of path.now) }
     ensures { result ≡ get_or (path_of path.now) k none }
 {
     let i = 3 * k;
-    let x = wide(path[i]);
-    let y = wide(path[i + 1]);
-    let radius = wide(path[i + 2]);
-    Vertex { x, y, radius }
+    Vertex {
+        x: i64::from(path[i]),
+        y: i64::from(path[i + 1]),
+        radius: i64::from(path[i + 2]),
+    }
 }
 
 // The first vertex outside the limits, or how many there are.
@@ -38,15 +33,12 @@ pub fn first_outside(path: &[i32], n: usize) -> usize
     requires { n ≡ length (path_of path.now) }
     ensures { result ≡ first_outside (path_of path.now) }
 {
-    let mut k: usize = 0;
-    while k < n {
-        if allowed(vertex(path, k)) {
-            k += 1;
-        } else {
+    for k in 0..n {
+        if !allowed(vertex(path, k)) {
             return k;
         }
     }
-    k
+    n
 }
 
 // Where a walk stands: the walk, the vertex that it goes to next, and where the output has come to.
@@ -78,10 +70,8 @@ pub fn begin(path: &[i32], n: usize, pen: Pen, out: &mut [i32]) -> Stand
     let first = first_stand(path);
     let mut w = first.walk;
     let mut at = first.at;
-    let mut k = first.next;
-    while k < n {
+    for k in first.next..n {
         let s = w.stride(out, at, pen, vertex(path, k));
-        let next = k + 1;
         if out.len() < s.at {
             return Stand {
                 walk: w,
@@ -91,11 +81,10 @@ pub fn begin(path: &[i32], n: usize, pen: Pen, out: &mut [i32]) -> Stand
         }
         w = s.walk;
         at = s.at;
-        k = next;
     }
     Stand {
         walk: w,
-        next: k,
+        next: n,
         at,
     }
 }
@@ -108,13 +97,10 @@ pub fn go_on(path: &[i32], n: usize, t: Vector, from: Stand, out: &mut [i32]) ->
 {
     let mut w = from.walk;
     let mut at = from.at;
-    let mut k = from.next;
-    while k < n {
-        let b = vertex(path, k);
-        let s = w.step(out, at, t, b);
+    for k in from.next..n {
+        let s = w.step(out, at, t, vertex(path, k));
         w = s.walk;
         at = s.at;
-        k += 1;
     }
     w.close(out, at, t)
 }
@@ -126,7 +112,8 @@ pub fn walk(path: &[i32], n: usize, t: Vector, out: &mut [i32]) -> usize
     ensures { Runs put edge_numbers out.old 0 (joined (bodies_at t (path_of path.now))) out.new result }
 {
     if n == 0 {
-        return 0;
+        0
+    } else {
+        go_on(path, n, t, first_stand(path), out)
     }
-    go_on(path, n, t, first_stand(path), out)
 }

@@ -1,13 +1,15 @@
 -- What products of vectors within the limits come to fits an i64. Assumes nothing.
-use mathlib.Core.Path.{◌≡◌, refl, sym, ap, ◌∙◌}
+use mathlib.Core.Path.{◌≡◌, refl, ap}
 use mathlib.Core.Bool.{Bool, true, false, ◌&&◌}
-use Prim.Native.Nat.{ℕ, suc, ◌+◌, ◌-◌, ◌*◌, ◌^◌, ◌≤◌, ◌<◌}
+use Prim.Native.Nat.{ℕ, suc, ◌-◌, ◌*◌, ◌^◌, ◌≤◌, ◌<◌}
 use native.Mathlib.Nat.{mul-le-mul}
 use native.Mathlib.Omega.{arith}
 use borrow.Author.Tests.{eq-eqb, ne_eqb, eqb-true, eqb-false}
 use lib.Dec.{eqb}
 use lib.IntN.{ℤ, pos, negsuc, nat_abs, ◌+ℤ◌, ◌-ℤ◌, ◌*ℤ◌}
 use lib.Signed.{mag}
+use Rattle.std.specs.Ordering.{int_eq}
+use Rattle.std.proofs.lemmas.Bool.Decides.{same_from_decides, Decides-like, Decides-eqb, Decides-int_eq}
 use mir.Syntax.{w64}
 use mir.Val.{SFits, to_z, of_z}
 use mir.Facts.{to_z-of_z}
@@ -123,12 +125,14 @@ eq_bits (pos m) (negsuc n) ha hb = ne_eqb _ _ (λ (h : m ≡ 2 ^ 64 - suc n). om
 eq_bits (negsuc m) (pos n) ha hb = ne_eqb _ _ (λ (h : 2 ^ 64 - suc m ≡ n). omega (arith, h))
 eq_bits (negsuc m) (negsuc n) ha hb = neg-bits m n ha hb (eqb m n) refl
 
--- two points: the first coordinates' test passed, and the second's decides; or it failed
-module _ (p q : Point) (hx : mag p.x < 2 ^ 63) (kx : mag q.x < 2 ^ 63) where
-  pub same_first : mag p.y < 2 ^ 63 → mag q.y < 2 ^ 63 → of_z w64 p.x ≡ of_z w64 q.x → eqb (of_z w64 p.y) (of_z w64 q.y) ≡ same_point p q
-  unfolding same_point
-  same_first hy ky e = eq_bits p.y q.y hy ky ∙ sym (ap (λ t. t && same_number p.y q.y) (sym (eq_bits p.x q.x hx kx) ∙ eq-eqb _ _ e))
+-- what the points' own test tells
+eq_same : (a b : ℤ) → int_eq a b ≡ same_number a b
+unfolding same_number
+eq_same (pos m) (pos n) = same_from_decides _ _ (Decides-int_eq (pos m) (pos n)) (Decides-like (eqb m n) (λ e. ap pos e) (λ (h : pos m ≡ pos n). (cc)) (Decides-eqb m n))
+eq_same (pos m) (negsuc n) = refl
+eq_same (negsuc m) (pos n) = refl
+eq_same (negsuc m) (negsuc n) = same_from_decides _ _ (Decides-int_eq (negsuc m) (negsuc n)) (Decides-like (eqb m n) (λ e. ap negsuc e) (λ (h : negsuc m ≡ negsuc n). (cc)) (Decides-eqb m n))
 
-  pub same_not : (of_z w64 p.x ≡ of_z w64 q.x → ⊥) → eqb (of_z w64 p.x) (of_z w64 q.x) ≡ same_point p q
-  unfolding same_point
-  same_not e = ne_eqb _ _ e ∙ sym (ap (λ t. t && same_number p.y q.y) (sym (eq_bits p.x q.x hx kx) ∙ ne_eqb _ _ e))
+pub same_told : (p q : Point) {r : Bool} → r ≡ int_eq p.x q.x && int_eq p.y q.y → r ≡ same_point p q
+unfolding same_point
+same_told p q e = rw (← eq_same p.x q.x, ← eq_same p.y q.y) e

@@ -1,39 +1,9 @@
 -- Tests of two-limb numbers, and the bounds that the search for a component needs. Assumes nothing.
-use mathlib.Core.Path.{◌≡◌, sym, ◌∙◌}
+use mathlib.Core.Path.{◌≡◌}
 use Prim.Native.Nat.{ℕ, zero, suc, ◌+◌, ◌*◌, ◌/◌, ◌^◌, ◌≤◌, ◌<◌}
-use native.Mathlib.Nat.{mul-le-mul, mul-le-mul_left, mul-le-mul_right, mul_assoc, add-mul, lt_of_not-le, zero-mul}
-use native.Mathlib.Decide.{dec_le}
+use native.Mathlib.Nat.{mul-le-mul, mul-le-mul_left, mul-le-mul_right, mul_assoc, add-mul, zero-mul}
 use native.Mathlib.Omega.{arith}
-use lib.Dec.{leb, ltb}
-use borrow.Author.Tests.{le-leb, lt-leb, lt-ltb, le-ltb}
 use Rattle.whole.proofs.Squares.{square_next}
-
--- tests whose facts follow from each other agree
-leb_iff : (x y u v : ℕ) → (x ≤ y → u ≤ v) → (y < x → v < u) → leb x y ≡ leb u v
-leb_iff x y u v f g = go (dec_le x y)
-  where
-    go : Dec (x ≤ y) → leb x y ≡ leb u v
-    go (yes k) = le-leb x y k ∙ sym (le-leb u v (f k))
-    go (no k) = lt-leb x y (lt_of_not-le k) ∙ sym (lt-leb u v (g (lt_of_not-le k)))
-
--- numbers of two digits, of which the upper are equal
-pub same_top : (a b p q : ℕ) → a ≡ p → leb b q ≡ leb (a * 2 ^ 64 + b) (p * 2 ^ 64 + q)
-same_top a b p q e = leb_iff b q (a * 2 ^ 64 + b) (p * 2 ^ 64 + q) (λ h. omega arith) (λ h. omega arith)
-
--- or not
-pub other_top : (a b p q : ℕ) → b < 2 ^ 64 → q < 2 ^ 64 → (a ≡ p → ⊥) → ltb a p ≡ leb (a * 2 ^ 64 + b) (p * 2 ^ 64 + q)
-other_top a b p q h k n = go (dec_le p a)
-  where
-    above : (a p : ℕ) → p ≤ a → (a ≡ p → ⊥) → p < a
-    above a p l n = at (dec_le a p)
-      where
-        at : Dec (a ≤ p) → p < a
-        at (yes m) = absurd (n (omega arith))
-        at (no m) = lt_of_not-le m
-
-    go : Dec (p ≤ a) → ltb a p ≡ leb (a * 2 ^ 64 + b) (p * 2 ^ 64 + q)
-    go (yes l) = le-ltb a p l ∙ sym (lt-leb (a * 2 ^ 64 + b) (p * 2 ^ 64 + q) (omega (arith, above a p l n)))
-    go (no l) = lt-ltb a p (lt_of_not-le l) ∙ sym (le-leb (a * 2 ^ 64 + b) (p * 2 ^ 64 + q) (omega (arith, lt_of_not-le l)))
 
 pub square_most : (n : ℕ) → n ≤ 2 ^ 31 → n * n ≤ 2 ^ 62
 square_most n h = mul-le-mul {n₂ = 2 ^ 31} {m₂ = 2 ^ 31} h h

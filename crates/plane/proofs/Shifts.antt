@@ -12,15 +12,12 @@ use mir.Val.{SFits, to_z}
 use mir.Facts.{to_z_pos}
 use Rattle.whole.specs.Sizes.{Size}
 use Rattle.whole.proofs.Signed.{up, down, add_balance, up-neg, down-neg}
-use Rattle.whole.proofs.Sizes.{size_add, size_mul, size_fits}
+use Rattle.whole.proofs.Sizes.{size_mul}
 use Rattle.number.specs.MulDiv.{nearest_of, rounded_of, mul_div_of}
 use Rattle.number.proofs.Nearest.{nearest_is, mul-div_by}
 use Rattle.plane.proofs.Products.{bits, back, short_fits, product_fits}
 
 -- ---- what is shifted fits, and so does the result
-
-pub half_fits : {z h : ℤ} → Size (2 ^ 60) z → Size (2 ^ 60) h → SFits w64 (z +ℤ h)
-half_fits k l = size_fits (2 ^ 61) w64 _ (size_add (2 ^ 60) (2 ^ 60) _ _ k l) tt
 
 pub shifted_fits : (m : ℕ) {z : ℤ} → SFits w64 z → SFits w64 (shr_z z m)
 shifted_fits m {z} h = record { sfits = lt_of_le_of_lt (mag_shr z m) h.sfits }
@@ -64,12 +61,6 @@ module _ (d : ℤ) (r : ℕ) (h : nat_abs d ≤ 2 ^ 30) (k : r ≤ 2 ^ 28) where
 
   natural : to_z w64 r ≡ pos r
   natural = to_z_pos w64 (omega arith)
-
-  pub part_short : Size (2 ^ 30) (bits d)
-  part_short = rw same (record { size = h })
-
-  pub radius_short : Size (2 ^ 30) (to_z w64 r)
-  radius_short = rw natural (record { size = omega arith })
 
   pub product_is : {z : ℤ} → z ≡ bits d *ℤ to_z w64 r → bits z ≡ d *ℤ pos r
   product_is {z} e =

@@ -4,7 +4,7 @@ use mathlib.Core.Bool.{true, false, true≢false}
 use Prim.Native.Nat.{ℕ, zero, suc, ◌+◌, ◌-◌, ◌*◌, ◌/◌, ◌^◌, ◌≤◌, ◌<◌}
 use native.Mathlib.Omega.{arith}
 use borrow.Author.Tests.{le-ltb}
-use lib.IntN.{ℤ, pos, negsuc, neg_ℤ, nat_abs, ◌+ℤ◌, ◌-ℤ◌, ◌*ℤ◌}
+use lib.IntN.{ℤ, pos, negsuc, nat_abs, ◌+ℤ◌, ◌-ℤ◌, ◌*ℤ◌}
 use lib.Signed.{lt_z, quot_z, shr_z}
 use mir.Syntax.{w64}
 use mir.Val.{SFits, to_z}
@@ -19,7 +19,7 @@ use Rattle.plane.proofs.Products.{bits, back, small_fits, sum_fits, difference_f
 use Rattle.plane.proofs.Turns.{first_is, second_is}
 use Rattle.plane.proofs.Norms.{most_product, most_first, most_second}
 use Rattle.plane.proofs.Leeway.{unit_most}
-use Rattle.plane.proofs.Shifts.{product_is, shift_fits, shifted_fits, shifted_minus, shifted_plus}
+use Rattle.plane.proofs.Shifts.{product_is, shift_fits, shifted_minus, shifted_plus}
 use Rattle.plane.specs.declared.Vector.{Vector}
 use Rattle.plane.specs.declared.rotation.Swing.{Swing}
 
@@ -57,28 +57,6 @@ heading_back s h e f =
 
 four_size : {z : ℤ} → Size (2 ^ 60) z → Size (2 ^ 62) (pos 4 *ℤ z)
 four_size h = size_mul 4 (2 ^ 60) (pos 4) _ (record { size = omega arith }) h
-
--- of minus 4 * m, raised
-raised_down : (w : ℤ) (m : ℕ) → up w + 4 * m ≡ down w + (2 ^ 32 - 4) → shr_z w (2 ^ 32) ≡ neg_ℤ (pos (m / 2 ^ 30))
-raised_down (pos a) m e =
-    let f : m / 2 ^ 30 ≡ 0 = omega arith in
-    let g : a / 2 ^ 32 ≡ 0 = omega arith in
-    rw (f, g)
-raised_down (negsuc a) m e =
-    let f : m / 2 ^ 30 ≡ suc (a / 2 ^ 32) = omega arith in
-    rw f
-
-upper_minus : (z : ℤ) → lt_z z (pos 0) ≡ true → shr_z (pos 4 *ℤ z +ℤ pos (2 ^ 32 - 4)) (2 ^ 32) ≡ quot_z z (pos (2 ^ 30))
-upper_minus (pos n) t = absurd (true≢false (sym t ∙ le-ltb n 0 (omega arith)))
-upper_minus (negsuc n) t =
-    raised_down (pos 4 *ℤ negsuc n +ℤ pos (2 ^ 32 - 4)) (suc n)
-    (omega (arith, add_balance (pos 4 *ℤ negsuc n) (pos (2 ^ 32 - 4)), up-mul (pos 4) (negsuc n), down-mul (pos 4) (negsuc n)))
-
-upper_plus : (z : ℤ) → lt_z z (pos 0) ≡ false → shr_z (pos 4 *ℤ z) (2 ^ 32) ≡ quot_z z (pos (2 ^ 30))
-upper_plus (pos n) t =
-    let e : 4 * n / 2 ^ 32 ≡ n / 2 ^ 30 = omega arith in
-    ap pos e
-upper_plus (negsuc n) t = absurd (true≢false t)
 
 -- ---- landing
 
@@ -127,15 +105,6 @@ module _ (z : ℤ) (h : Size (2 ^ 60) z) where
 
   pub raised_fits : SFits w64 (bits (pos 4 *ℤ bits z) +ℤ pos (2 ^ 32 - 4))
   raised_fits = rw (back four_fits, wide_back) raised_is
-
-  pub raised_minus : lt_z (bits z) (pos 0) ≡ true → shr_z (bits (bits (pos 4 *ℤ bits z) +ℤ pos (2 ^ 32 - 4))) (2 ^ 32) ≡ quot_z z (pos (2 ^ 30))
-  raised_minus t = rw (back raised_fits, back four_fits, wide_back) (upper_minus z (rw wide_back at t))
-
-  pub raised_plus : lt_z (bits z) (pos 0) ≡ false → shr_z (bits (pos 4 *ℤ bits z)) (2 ^ 32) ≡ quot_z z (pos (2 ^ 30))
-  raised_plus t = rw (back four_fits, wide_back) (upper_plus z (rw wide_back at t))
-
-  pub upper_back : (r : ℤ) → shr_z r (2 ^ 32) ≡ quot_z (bits z) (pos (2 ^ 30)) → SFits w64 r → bits (shr_z (bits r) (2 ^ 32)) ≡ quot_z z (pos (2 ^ 30))
-  upper_back r e f = rw (back f, back (shifted_fits (2 ^ 32) f)) (rw wide_back at e)
 
 -- c * 2 ^ 30 + (z + h), shifted down
 module _ (c z h : ℤ) (hc : Size (2 ^ 28) c) (hz : Size (2 ^ 60) z) (hh : Size (2 ^ 60) h) where

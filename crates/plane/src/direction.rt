@@ -9,24 +9,15 @@ use crate::Vector;
 use crate::vectors::square;
 use number::guess::{level, reciprocal_root};
 use number::root::root;
-use number::sign::{signed, size};
+use number::sign::signed;
 use number::wide::{high, product};
-
-// Whether the number a * 2^64 + b is at most p * 2^64 + q.
-fn at_most(a: u64, b: u64, p: u64, q: u64) -> bool
-    ensures { result ≡ leb (a * 2 ^ 64 + b) (p * 2 ^ 64 + q) }
-{
-    if a == p { b <= q } else { a < p }
-}
 
 // Whether n * n * s <= c * c * 2^60.
 fn within(n: u64, c: u64, s: u64) -> bool
     requires { (n ≤ 2 ^ 31) × (c ≤ 2 ^ 31) }
     ensures { result ≡ leb (n * n * s) (c * c * 2 ^ 60) }
 {
-    let p = product(n * n, s);
-    let e = product(c * c, 0x1000_0000_0000_0000);
-    at_most(p.hi, p.lo, e.hi, e.lo)
+    product(n * n, s) <= product(c * c, 0x1000_0000_0000_0000)
 }
 
 // The first number from g down that is within.
@@ -35,6 +26,7 @@ fn down(g: u64, c: u64, s: u64) -> u64
     ensures { (result ≤ 2 ^ 30) × (result * result * s ≤ c * c * 2 ^ 60) }
 {
     let mut n = g;
+    // a search, which ends where its test does: there is no range to go over
     while !within(n, c, s) {
         n -= 1;
     }
@@ -47,6 +39,7 @@ fn up(g: u64, c: u64, s: u64) -> u64
     ensures { (result ≡ part_of c s) × (result ≤ 2 ^ 30) }
 {
     let mut n = g;
+    // as above
     while within(n + 1, c, s) {
         n += 1;
     }
@@ -58,8 +51,7 @@ fn guess(c: u64, k: u32, h: u64) -> u64
     requires { k ≤ 31 }
     ensures { result ≤ 2 ^ 30 }
 {
-    let g = high(c << (1 + k), h);
-    if g < 0x4000_0000 { g } else { 0x4000_0000 }
+    high(c << (1 + k), h).min(0x4000_0000)
 }
 
 // Whether n is surely the largest with n * n * t <= c * c * 2^60, by upper limbs alone: what n * n * t leaves of c * c * 2^60 is more than
@@ -74,16 +66,19 @@ fn settled(n: u64, c: u64, t: u64) -> bool
     p < e && e < p + d
 }
 
-// The size of a direction's component: the largest n with n * n * s <= c * c * 2^60.
-fn part(c: u64, s: u64, k: u32, h: u64) -> u64
-    requires { (c ≤ 2 ^ 30) × (c * c ≤ s) × (0 < s) × (k ≤ 31) × (s * 4 ^ k < 2 ^ 64) }
-    ensures { (result ≡ part_of c s) × (result ≤ 2 ^ 30) }
+// The size of a direction's component: the largest n with n * n * s <= c * c * 2^60, where s is the squared length.
+fn part(c: u64, l: Length) -> u64
+    requires { (c ≤ 2 ^ 30) × (c * c ≤ l.square) × (0 < l.square) × (l.level ≤ 31) × (l.square * 4 ^ l.level < 2 ^ 64) }
+    ensures { (result ≡ part_of c l.square) × (result ≤ 2 ^ 30) }
 {
-    let g = guess(c, k, h);
+    let s = l.square;
+    let k = l.level;
+    let g = guess(c, k, l.reciprocal);
     if settled(g, c << k, s << (2 * k)) {
-        return g;
+        g
+    } else {
+        up(down(g, c, s), c, s)
     }
-    up(down(g, c, s), c, s)
 }
 
 // What a direction is taken by: the squared length, its level, and a number near the reciprocal of its root.
@@ -99,13 +94,12 @@ pub fn measured(v: Vector) -> Length
     requires { Short v × (0 < square_of v) }
     ensures { Measures v result }
 {
-    let s = square(v);
-    let k = level(s);
-    let h = reciprocal_root(s << (2 * k));
+    let square = square(v);
+    let level = level(square);
     Length {
-        square: s,
-        level: k,
-        reciprocal: h,
+        square,
+        level,
+        reciprocal: reciprocal_root(square << (2 * level)),
     }
 }
 
@@ -123,54 +117,52 @@ pub fn direction(v: Vector, l: Length) -> Vector
     requires { Short v × (0 < square_of v) × Measures v l }
     ensures { result ≡ direction_of v }
 {
-    let x = v.x;
-    let y = v.y;
-    let s = l.square;
-    let k = l.level;
-    let h = l.reciprocal;
     Vector {
-        x: signed(x < 0, part(size(x), s, k, h)),
-        y: signed(y < 0, part(size(y), s, k, h)),
+        x: signed(v.x < 0, part(v.x.unsigned_abs(), l)),
+        y: signed(v.y < 0, part(v.y.unsigned_abs(), l)),
     }
 }
 
-// The step of a grade: the direction of (4^k - 1, 2^(k+1)).
+// The step of each grade from 1 to 8: the direction of (4^k - 1, 2^(k+1)).
+static STEPS: [Vector; 8] = [
+    Vector {
+        x: 644245094,
+        y: 858993459,
+    },
+    Vector {
+        x: 947419256,
+        y: 505290270,
+    },
+    Vector {
+        x: 1040703614,
+        y: 264305679,
+    },
+    Vector {
+        x: 1065385856,
+        y: 133695480,
+    },
+    Vector {
+        x: 1071646718,
+        y: 67043391,
+    },
+    Vector {
+        x: 1073217663,
+        y: 33546241,
+    },
+    Vector {
+        x: 1073610759,
+        y: 16776192,
+    },
+    Vector {
+        x: 1073709056,
+        y: 8388480,
+    },
+];
+
+// The step of a grade.
 pub fn step(grade: u32) -> Vector
     requires { (1 ≤ grade) × (grade ≤ 8) }
     ensures { result ≡ step_of grade }
 {
-    match grade {
-        1 => Vector {
-            x: 644245094,
-            y: 858993459,
-        },
-        2 => Vector {
-            x: 947419256,
-            y: 505290270,
-        },
-        3 => Vector {
-            x: 1040703614,
-            y: 264305679,
-        },
-        4 => Vector {
-            x: 1065385856,
-            y: 133695480,
-        },
-        5 => Vector {
-            x: 1071646718,
-            y: 67043391,
-        },
-        6 => Vector {
-            x: 1073217663,
-            y: 33546241,
-        },
-        7 => Vector {
-            x: 1073610759,
-            y: 16776192,
-        },
-        _ => Vector {
-            x: 1073709056,
-            y: 8388480,
-        },
-    }
+    STEPS[grade as usize - 1]
 }

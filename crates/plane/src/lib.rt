@@ -6,14 +6,14 @@ pub mod rotation;
 pub mod vectors;
 
 // A point.
-#[derive(Clone, Copy)]
+#[derive(Clone, Copy, PartialEq, Eq, Debug)]
 pub struct Point {
     pub x: i64,
     pub y: i64,
 }
 
 // The way from one point to another; a direction, in units of 2^-30.
-#[derive(Clone, Copy)]
+#[derive(Clone, Copy, PartialEq, Eq, Debug)]
 pub struct Vector {
     pub x: i64,
     pub y: i64,

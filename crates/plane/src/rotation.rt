@@ -52,10 +52,7 @@ fn raised(z: i64) -> i64
     ensures { shr_z result (2 ^ 32) ≡ quot_z z (pos (2 ^ 30)) }
 {
     let four = 4 * z;
-    if z < 0 {
-        return four + 0xffff_fffc;
-    }
-    four
+    if z < 0 { four + 0xffff_fffc } else { four }
 }
 
 // z / 2^30, towards zero.
@@ -93,9 +90,10 @@ pub fn scaled(d: i64, r: u64) -> i64
 {
     let z = times(d, r as i64);
     if d < 0 {
-        return rounded(z, 0x1fff_ffff);
+        rounded(z, 0x1fff_ffff)
+    } else {
+        rounded(z, 0x2000_0000)
     }
-    rounded(z, 0x2000_0000)
 }
 
 // (c * 2^30 + z + h) / 2^30, rounded down.
@@ -114,7 +112,8 @@ pub fn landed(c: i64, z: i64, d: i64, r: u64) -> i64
 {
     let p = times(d, r as i64);
     if z < 0 {
-        return lowered(c, p, 0x1fff_ffff);
+        lowered(c, p, 0x1fff_ffff)
+    } else {
+        lowered(c, p, 0x2000_0000)
     }
-    lowered(c, p, 0x2000_0000)
 }

@@ -1,25 +1,9 @@
 // Vectors between points, and their products.
 ghost use Rattle.std.specs.Prelude.{◌≡◌, ◌^◌, ◌+ℤ◌, ◌*ℤ◌, ◌-ℤ◌};
 ghost use Rattle.whole.specs.Sizes.{Size};
-ghost use Rattle.plane.specs.Vectors.{Near, Short, same_point, from_to, cross_of, dot_of, square_of};
+ghost use Rattle.plane.specs.Vectors.{Near, Short, from_to, cross_of, dot_of, square_of};
 
 use crate::{Point, Vector};
-use number::sign::size;
-
-// Whether two points are one.
-pub fn same(p: Point, q: Point) -> bool
-    ensures { result ≡ same_point p q }
-{
-    p.x == q.x && p.y == q.y
-}
-
-// b - a.
-fn less(b: i64, a: i64) -> i64
-    requires { Size (2 ^ 29) a × Size (2 ^ 29) b }
-    ensures { result ≡ b -ℤ a }
-{
-    b - a
-}
 
 // The vector from p to q.
 pub fn from_to(p: Point, q: Point) -> Vector
@@ -27,8 +11,8 @@ pub fn from_to(p: Point, q: Point) -> Vector
     ensures { result ≡ from_to p q }
 {
     Vector {
-        x: less(q.x, p.x),
-        y: less(q.y, p.y),
+        x: q.x - p.x,
+        y: q.y - p.y,
     }
 }
 
@@ -85,7 +69,7 @@ pub fn square(v: Vector) -> u64
     requires { Short v }
     ensures { result ≡ square_of v }
 {
-    let m = size(v.x);
-    let n = size(v.y);
+    let m = v.x.unsigned_abs();
+    let n = v.y.unsigned_abs();
     m * m + n * n
 }

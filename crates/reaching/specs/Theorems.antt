@@ -1,5 +1,5 @@
 -- Theorems over the definitions: the call has one outcome, reply 0 is reached, and what its number says of the path.
-use Rattle.std.specs.Prelude.{◌≡◌, true, false, List, ◌++◌, ℕ, ◌+◌, ◌≤◌, ◌<◌, length}
+use Rattle.std.specs.Prelude.{◌≡◌, true, false, List, ◌++◌, ℕ, ◌+◌, ◌≤◌, ◌<◌, length, Result}
 use Rattle.contacts.specs.declared.Vertex.{Vertex}
 use Rattle.locality.specs.Local.{settled_to}
 use Rattle.outline.specs.Outlines.{outline_bytes}
@@ -8,11 +8,11 @@ use Rattle.outline.specs.declared.Edition.{Edition}
 use Rattle.outline.specs.Stores.{path_in}
 use Rattle.outline.specs.declared.Form.TheVariants.{Stroke}
 use Rattle.reaching.specs.Replies.{reached_of, reach_reply, Reaches}
-use Rattle.reaching.specs.declared.Reached.{Reached}
+use Rattle.replies.specs.declared.Refusal.{Refusal}
 
 -- Document 01, "Promises and hollow programs": two outcomes that the call's promise allows coincide.
 abbrev pub OneReach : Type 0
-OneReach = (s : List ℕ) (k : ℕ) (r q : Reached) → Reaches s k r → Reaches s k q → r ≡ q
+OneReach = (s : List ℕ) (k : ℕ) (r q : Result ℕ Refusal) → Reaches s k r → Reaches s k q → r ≡ q
 
 -- Of an outline, whatever bytes stand after it, the call tells the reach of each vertex.
 abbrev pub KeptIsReached : Type 0

@@ -1,5 +1,5 @@
 // The steps after a vertex, up to the first that is drawn or broken.
-ghost use Rattle.std.specs.Prelude.{◌≡◌, ◌+◌, ◌<◌, length, get_or};
+ghost use Rattle.std.specs.Prelude.{◌≡◌, ◌+◌, ◌<◌, ◌≤◌, length, get_or, MatchOption};
 ghost use Rattle.contacts.specs.Limits.{first_outside};
 ghost use Rattle.contacts.specs.Contacts.{kind_of};
 ghost use Rattle.paths.specs.Paths.{path_of, none};
@@ -14,11 +14,7 @@ use paths::paths::vertex;
 fn settled(kind: Kind) -> bool
     ensures { result ≡ settles kind }
 {
-    match kind {
-        Kind::Broken => true,
-        Kind::Drawn => true,
-        Kind::Thin => false,
-    }
+    matches!(kind, Kind::Broken | Kind::Drawn)
 }
 
 // Whether the step from vertex i to the next is drawn or broken.
@@ -31,26 +27,24 @@ fn settled_at(path: &[i32], i: usize) -> bool
     settled(kind(a, b))
 }
 
-// The j of vertex k, as demand 3 has it; the number of vertices or more where no vertex is so reached.
-fn reach_within(path: &[i32], n: usize, k: usize) -> usize
-    requires { (k < n) × (n ≡ length (path_of path.now)) × (first_outside (path_of path.now) ≡ length (path_of path.now)) }
-    ensures { result ≡ reach_of (path_of path.now) k }
+// The j of vertex k, as demand 3 has it, if a vertex is so reached.
+fn reach_within(path: &[i32], k: usize) -> Option<usize>
+    requires { (k < length (path_of path.now)) × (first_outside (path_of path.now) ≡ length (path_of path.now)) }
+    ensures { MatchOption result (length (path_of path.now) ≤ reach_of (path_of path.now) k) (λ j. (j ≡ reach_of (path_of path.now) k) × (j < length (path_of path.now))) }
 {
-    let mut i = k + 1;
-    while i + 1 < n {
+    let n = path.len() / 3;
+    for i in k + 1..n - 1 {
         if settled_at(path, i) {
-            return i + 1;
+            return Some(i + 1);
         }
-        i += 1;
     }
-    i + 1
+    None
 }
 
 // That vertex, or the number of vertices where there is none.
-pub fn reached(path: &[i32], n: usize, k: usize) -> usize
-    requires { (k < n) × (n ≡ length (path_of path.now)) × (first_outside (path_of path.now) ≡ length (path_of path.now)) }
+pub fn reached(path: &[i32], k: usize) -> usize
+    requires { (k < length (path_of path.now)) × (first_outside (path_of path.now) ≡ length (path_of path.now)) }
     ensures { result ≡ reached_of (path_of path.now) k }
 {
-    let j = reach_within(path, n, k);
-    if j < n { j } else { n }
+    reach_within(path, k).unwrap_or(path.len() / 3)
 }

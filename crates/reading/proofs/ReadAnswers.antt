@@ -1,4 +1,5 @@
 -- What read answers, case by case. Assumes nothing.
+use Rattle.std.specs.Prelude.{Result, Ok, Err}
 use mathlib.Core.Path.{◌≡◌, sym, ap, ◌∙◌}
 use mathlib.Core.Bool.{false}
 use mathlib.Core.List.{List}
@@ -18,21 +19,18 @@ use Rattle.replies.specs.declared.Refusal.TheVariants.{NoRoom}
 use Rattle.replies.proofs.Rows.{room_short, room_enough, refusal_some, refused_written, done_written}
 use Rattle.heading.specs.Shows.{lent_numbers, lent_width, shown_in, shown_path}
 use Rattle.heading.specs.declared.Header.{Header}
-use Rattle.heading.specs.declared.Checked.{Checked}
-use Rattle.heading.specs.declared.Checked.TheVariants.{Refused}
 use Rattle.heading.proofs.Shown.{shown_path_lem}
 use Rattle.checking.specs.StoreChecks.{Sound, StoreSays}
 use Rattle.checking.proofs.StoreReads.{store_refuses, store_passes, header_count}
 use Rattle.reading.specs.Reading.{read_reply, read_grade, read_form, read_out, reply_of_read, grade_of_read, form_of_read, Reads}
-use Rattle.reading.specs.declared.Read.TheVariants as read
 
-reads_refusal : {s : List ℕ} (out : List ℤ) (r : Refusal) → refusal_of r ≡ read_reply s (length out) → Reads s out (read.Refused r) out
+reads_refusal : {s : List ℕ} (out : List ℤ) (r : Refusal) → refusal_of r ≡ read_reply s (length out) → Reads s out (Err r) out
 unfolding reply_of_read grade_of_read form_of_read read_grade read_form read_out
 reads_refusal {s} out r e =
     let f : eqb (read_reply s (length out)).0 0 ≡ false = rw e at (refusal_some r) in
     record { reply = e; grade = rw (f, read_grade); form = rw (f, read_form); within = tt; out = refused_written r (spread (lent_numbers (form_in s)) (path_in s)) out e }
 
-pub reads_refused : {s : List ℕ} {p : List ℤ} {c : Checked} {r : Refusal} (out : List ℤ) → c ≡ Refused r → StoreSays s p c → Reads s out (read.Refused r) out
+pub reads_refused : {s : List ℕ} {p : List ℤ} {c : Result Header Refusal} {r : Refusal} (out : List ℤ) → c ≡ Err r → StoreSays s p c → Reads s out (Err r) out
 unfolding read_reply
 reads_refused {r = r} out e a = reads_refusal out r (store_refuses _ _ a e)
 
@@ -49,14 +47,14 @@ module _ {s : List ℕ} {h : Header} (out : List ℤ) (a : Sound s h) {needed w 
   unfolding n
   needed_is = en ∙ (λ i. (ew ∙ ap lent_width a.head.form) i * header_count a.head i)
 
-  pub reads_short : length out < needed → Reads s out (read.Refused (NoRoom h.n)) out
-  unfolding read_reply refusal_of n
+  pub reads_short : length out < needed → Reads s out (Err (NoRoom h.n)) out
+  unfolding read_reply n
   reads_short l =
       let e = header_count a.head in
       reads_refusal out (NoRoom h.n) (sym (store_passes _ (0, n) a ∙ room_short (lent_width (form_in s) * n) (length out) n (0, n) (rw needed_is at l) ∙ ap (λ (k : ℕ). (5, k)) (sym e)))
 
   pub reads_done : {out₁ : List ℤ} → needed ≤ length out → Runs put (lent_numbers h.form) out 0 (shown_in h.form h.n (drop (header_words h.form) (words_in s))) out₁ (lent_width h.form * h.n)
-      → Reads s out (read.Vertices h.n h.grade h.form) out₁
+      → Reads s out (Ok (record { vertices = h.n; grade = h.grade; form = h.form })) out₁
   unfolding reply_of_read grade_of_read form_of_read read_reply read_grade read_form read_out shown_path n
   reads_done {out₁} l p =
       let e = header_count a.head in

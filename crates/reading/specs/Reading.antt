@@ -1,5 +1,5 @@
 -- Document 01, "Replies, tested in this order", and document 02, requests 3 and 11: read, its answer and its promise.
-use Rattle.std.specs.Prelude.{◌≡◌, true, false, List, [], ◌∷◌, ◌++◌, ℕ, ◌*◌, ◌≤◌, eqb, ℤ, length, drop}
+use Rattle.std.specs.Prelude.{◌≡◌, true, false, List, [], ◌∷◌, ◌++◌, ℕ, ◌*◌, ◌≤◌, eqb, ℤ, length, drop, Result, Ok, Err}
 use Rattle.runs.specs.Runs.{spread}
 use Rattle.contacts.specs.declared.Vertex.{Vertex}
 use Rattle.outline.specs.Outlines.{outline_bytes}
@@ -10,10 +10,10 @@ use Rattle.outline.specs.declared.Form.{Form}
 use Rattle.outline.specs.declared.Form.TheVariants.{Stroke}
 use Rattle.replies.specs.Replies.{Reply, first_row, room_row, written}
 use Rattle.replies.specs.Refusals.{refusal_of}
+use Rattle.replies.specs.declared.Refusal.{Refusal}
 use Rattle.heading.specs.Shows.{lent_numbers, lent_width}
 use Rattle.heading.specs.StoreRows.{store_rows}
 use Rattle.reading.specs.declared.Read.{Read}
-use Rattle.reading.specs.declared.Read.TheVariants as read
 
 -- ---- read the path of a sound outline into lent numbers, three a vertex, of a kerb two; its grade and form beside the reply (0 and a stroke of
 -- edition 1 when refused)
@@ -32,20 +32,20 @@ read_form s room = elim (eqb (read_reply s room).0 0) [ true ↦ form_in s | fal
 unfoldable pub read_out : List ℕ → List ℤ → List ℤ
 read_out s room = written (read_reply s (length room)) (spread (lent_numbers (form_in s)) (path_in s)) room
 
-unfoldable pub reply_of_read : Read → Reply
-reply_of_read (read.Vertices n g f) = (0, n)
-reply_of_read (read.Refused r) = refusal_of r
+unfoldable pub reply_of_read : Result Read Refusal → Reply
+reply_of_read (Ok read) = (0, read.vertices)
+reply_of_read (Err r) = refusal_of r
 
 -- the grade and the form beside the reply
-unfoldable pub grade_of_read : Read → ℕ
-grade_of_read (read.Vertices n g f) = g
-grade_of_read (read.Refused r) = 0
+unfoldable pub grade_of_read : Result Read Refusal → ℕ
+grade_of_read (Ok read) = read.grade
+grade_of_read (Err r) = 0
 
-unfoldable pub form_of_read : Read → Form
-form_of_read (read.Vertices n g f) = f
-form_of_read (read.Refused r) = Stroke First
+unfoldable pub form_of_read : Result Read Refusal → Form
+form_of_read (Ok read) = read.form
+form_of_read (Err r) = Stroke First
 
-pub record Reads (store : List ℕ) (out₀ : List ℤ) (answer : Read) (out₁ : List ℤ) : Type 0 where
+pub record Reads (store : List ℕ) (out₀ : List ℤ) (answer : Result Read Refusal) (out₁ : List ℤ) : Type 0 where
   pub reply : reply_of_read answer ≡ read_reply store (length out₀)
   pub grade : grade_of_read answer ≡ read_grade store (length out₀)
   pub form : form_of_read answer ≡ read_form store (length out₀)
@@ -61,4 +61,4 @@ KeptIsRead = (f : Form) (g : ℕ) (ps : List ℕ) (vs : List Vertex) (rest : Lis
     × (read_out (outline_bytes f g ps vs ++ rest) room ≡ spread (lent_numbers f) vs ++ drop (length (spread (lent_numbers f) vs)) room)
 
 abbrev pub OneReading : Type 0
-OneReading = (s : List ℕ) (out : List ℤ) (r q : Read) (o p : List ℤ) → Reads s out r o → Reads s out q p → (r ≡ q) × (o ≡ p)
+OneReading = (s : List ℕ) (out : List ℤ) (r q : Result Read Refusal) (o p : List ℤ) → Reads s out r o → Reads s out q p → (r ≡ q) × (o ≡ p)

@@ -7,44 +7,48 @@ ghost use Rattle.checking.specs.StoreChecks.{Sound};
 ghost use Rattle.checking.specs.StoreRoom.{store_path, store_own};
 
 use checking::check;
+use heading::Header;
 use heading::shows::{show_path, width};
-use heading::{Checked, Header};
 use outline::Form;
 use replies::Refusal;
 
 pub mod posts;
 
-// What reading an outline came to: how many vertices, which grade and which form, or why not.
+// What is read beside the path: how many vertices, which grade and which form.
 #[derive(Clone, Copy)]
-pub enum Read {
-    Vertices(usize, u32, Form),
-    Refused(Refusal),
+pub struct Read {
+    pub vertices: usize,
+    pub grade: u32,
+    pub form: Form,
 }
 
 // The path of a store that passed every shared row.
-fn read_path(s: &[u8], h: Header, out: &mut [i32]) -> Read
+fn read_path(s: &[u8], h: Header, out: &mut [i32]) -> Result<Read, Refusal>
     requires { Sound s.now h }
     ensures { Reads s.now out.old result out.new }
 {
-    let n = h.n;
-    let grade = h.grade;
-    let form = h.form;
-    let needed = width(form) * n;
+    let needed = width(h.form) * h.n;
     if out.len() < needed {
-        return Read::Refused(Refusal::NoRoom(n));
+        return Err(Refusal::NoRoom(h.n));
     }
-    show_path(s, form, n, out);
-    Read::Vertices(n, grade, form)
+    show_path(s, h.form, h.n, out);
+    Ok(Read {
+        vertices: h.n,
+        grade: h.grade,
+        form: h.form,
+    })
 }
 
 // The path of a store, three numbers a vertex, of a kerb two, into lent numbers; `path` and `own` are room to check it in.
-pub fn read_with(store: &[u8], out: &mut [i32], path: &mut [i32], own: &mut [i32]) -> Read
+pub fn read_with(
+    store: &[u8],
+    out: &mut [i32],
+    path: &mut [i32],
+    own: &mut [i32],
+) -> Result<Read, Refusal>
     requires { (store_path store.now ≤ length path.old) × (store_own store.now ≤ length own.old) }
     ensures { Reads store.now out.old result out.new }
 {
-    let checked = check(store, path, own);
-    match checked {
-        Checked::Refused(r) => Read::Refused(r),
-        Checked::Holds(h) => read_path(store, h, out),
-    }
+    let header = check(store, path, own)?;
+    read_path(store, header, out)
 }

@@ -1,5 +1,5 @@
 -- A rule's edges over no room: how many there are, and that no count wraps. Assumes nothing.
-use mathlib.Core.Path.{◌≡◌, refl, ap}
+use mathlib.Core.Path.{◌≡◌, ap}
 use mathlib.Core.Bool.{true, false}
 use mathlib.Core.List.{List}
 use Prim.Native.Nat.{ℕ, ◌/◌, ◌≤◌}
@@ -13,6 +13,7 @@ use Rattle.turning.specs.Bounds.{Most}
 use Rattle.turning.specs.declared.Edge.{Edge}
 use Rattle.turning.proofs.Most.{most_both, edges_four}
 use Rattle.folds.specs.Pens.{Lays}
+use Rattle.folds.specs.declared.Pen.{Pen}
 use Rattle.folds.proofs.Laid.{lays_plain}
 use Rattle.contacts.specs.declared.Section.{Section}
 use Rattle.joins.specs.Joins.{left_join, right_join, same_centre, gap_of}
@@ -26,8 +27,9 @@ few_room {n} {es} m h = record { fits = omega (arith, edges_four es, m.most) }
 pub run_count : {l₀ l₁ : List ℤ} {n : ℕ} {es : List Edge} → Runs put edge_numbers l₀ 0 es l₁ n → n / 4 ≡ length es
 run_count {es = es} p = omega (arith, p.pos, edges_four es)
 
-pub laid_count : {t : Vector} {l₀ l₁ : List ℤ} {n : ℕ} {es : List Edge} → Lays t false l₀ 0 es l₁ n → n / 4 ≡ length es
-laid_count p = run_count (lays_plain refl p)
+pub plain_count : (rule : Vector → List Edge) {pen : Pen} {t : Vector} {l₀ l₁ : List ℤ} {n : ℕ} → pen.step ≡ t → pen.folds ≡ false
+    → Lays pen.step pen.folds l₀ 0 (rule pen.step) l₁ n → n / 4 ≡ length (rule t)
+plain_count rule e f p = rw (← e) (run_count (lays_plain f p))
 
 module _ (t : Vector) (prev next : Section) where
   module _ (e : same_centre prev next ≡ true) where

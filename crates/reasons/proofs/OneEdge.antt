@@ -4,7 +4,7 @@ use mathlib.Core.Bool.{Bool, true, false}
 use mathlib.Core.List.{List, [], ◌∷◌, ◌++◌}
 use Prim.Native.Nat.{ℕ, zero, suc, ◌*◌, ◌≤◌, ◌<◌}
 use native.Mathlib.Omega.{arith}
-use borrow.Author.Tests.{lt-ltb, le-ltb, eq-eqb, ne_eqb}
+use borrow.Author.Tests.{lt-ltb, le-ltb, ne_eqb}
 use lib.Dec.{eqb}
 use lib.ListN.{length, get_or, drop}
 use lib.Seq.{set_out}
@@ -18,7 +18,7 @@ use Rattle.reasons.specs.Lists.{exact_number, why_numbers, reason_of, unnamed, e
 use Rattle.reasons.specs.declared.Reason.{Reason}
 use Rattle.reasons.specs.declared.Reason.TheVariants.{LeftSide, RightSide, StartCap, EndCap, LeftJoin, RightJoin, Gap, Circle}
 use Rattle.reasons.specs.declared.Why.{Why}
-use Rattle.reasons.specs.declared.Explanation.TheVariants.{Edge, NoEdge}
+use Rattle.std.specs.Prelude.{Some, None}
 use Rattle.reasons.proofs.OneReason.{one_reason}
 
 reason_back : (r : Reason) → reason_of (reason_number r) (exactness_of r) ≡ r
@@ -37,40 +37,12 @@ unfolding exact_number
 exact_back true = refl
 exact_back false = refl
 
--- ---- the reason that has a number, as it is tested
+-- ---- the last reason: it has every number that no other has
 
 module _ (n : ℕ) (x : Exactness) where
-  pub named_0 : n ≡ 0 → LeftSide x ≡ reason_of n x
+  pub named_last : (n ≡ 0 → ⊥) → (n ≡ 1 → ⊥) → (n ≡ 2 → ⊥) → (n ≡ 3 → ⊥) → (n ≡ 4 → ⊥) → (n ≡ 5 → ⊥) → (n ≡ 6 → ⊥) → Circle ≡ reason_of n x
   unfolding reason_of
-  named_0 e = rw (eq-eqb n 0 e, reason_of)
-
-  pub named_1 : (n ≡ 0 → ⊥) → n ≡ 1 → RightSide x ≡ reason_of n x
-  unfolding reason_of
-  named_1 h0 e = rw (ne_eqb n 0 h0, eq-eqb n 1 e, reason_of)
-
-  pub named_2 : (n ≡ 0 → ⊥) → (n ≡ 1 → ⊥) → n ≡ 2 → StartCap ≡ reason_of n x
-  unfolding reason_of
-  named_2 h0 h1 e = rw (ne_eqb n 0 h0, ne_eqb n 1 h1, eq-eqb n 2 e, reason_of)
-
-  pub named_3 : (n ≡ 0 → ⊥) → (n ≡ 1 → ⊥) → (n ≡ 2 → ⊥) → n ≡ 3 → EndCap ≡ reason_of n x
-  unfolding reason_of
-  named_3 h0 h1 h2 e = rw (ne_eqb n 0 h0, ne_eqb n 1 h1, ne_eqb n 2 h2, eq-eqb n 3 e, reason_of)
-
-  pub named_4 : (n ≡ 0 → ⊥) → (n ≡ 1 → ⊥) → (n ≡ 2 → ⊥) → (n ≡ 3 → ⊥) → n ≡ 4 → LeftJoin ≡ reason_of n x
-  unfolding reason_of
-  named_4 h0 h1 h2 h3 e = rw (ne_eqb n 0 h0, ne_eqb n 1 h1, ne_eqb n 2 h2, ne_eqb n 3 h3, eq-eqb n 4 e, reason_of)
-
-  pub named_5 : (n ≡ 0 → ⊥) → (n ≡ 1 → ⊥) → (n ≡ 2 → ⊥) → (n ≡ 3 → ⊥) → (n ≡ 4 → ⊥) → n ≡ 5 → RightJoin ≡ reason_of n x
-  unfolding reason_of
-  named_5 h0 h1 h2 h3 h4 e = rw (ne_eqb n 0 h0, ne_eqb n 1 h1, ne_eqb n 2 h2, ne_eqb n 3 h3, ne_eqb n 4 h4, eq-eqb n 5 e, reason_of)
-
-  pub named_6 : (n ≡ 0 → ⊥) → (n ≡ 1 → ⊥) → (n ≡ 2 → ⊥) → (n ≡ 3 → ⊥) → (n ≡ 4 → ⊥) → (n ≡ 5 → ⊥) → n ≡ 6 → Gap ≡ reason_of n x
-  unfolding reason_of
-  named_6 h0 h1 h2 h3 h4 h5 e = rw (ne_eqb n 0 h0, ne_eqb n 1 h1, ne_eqb n 2 h2, ne_eqb n 3 h3, ne_eqb n 4 h4, ne_eqb n 5 h5, eq-eqb n 6 e, reason_of)
-
-  pub named_7 : (n ≡ 0 → ⊥) → (n ≡ 1 → ⊥) → (n ≡ 2 → ⊥) → (n ≡ 3 → ⊥) → (n ≡ 4 → ⊥) → (n ≡ 5 → ⊥) → (n ≡ 6 → ⊥) → Circle ≡ reason_of n x
-  unfolding reason_of
-  named_7 h0 h1 h2 h3 h4 h5 h6 = rw (ne_eqb n 0 h0, ne_eqb n 1 h1, ne_eqb n 2 h2, ne_eqb n 3 h3, ne_eqb n 4 h4, ne_eqb n 5 h5, ne_eqb n 6 h6, reason_of)
+  named_last h0 h1 h2 h3 h4 h5 h6 = rw (ne_eqb n 0 h0, ne_eqb n 1 h1, ne_eqb n 2 h2, ne_eqb n 3 h3, ne_eqb n 4 h4, ne_eqb n 5 h5, ne_eqb n 6 h6, reason_of)
 
 -- past the room nothing is put
 over_out : (l : List ℕ) (i : ℕ) (vs : List ℕ) → length l ≤ i → over put l i vs ≡ l
@@ -105,13 +77,13 @@ five (a ∷ b ∷ c ∷ d ∷ z ∷ y ∷ l) ws k e h = absurd (omega arith)
 -- ---- what explaining an edge comes to
 
 module _ (ws : List Why) (k : ℕ) where
-  pub explained_none : length ws ≤ k → NoEdge ≡ explanation_of ws k
+  pub explained_none : length ws ≤ k → None ≡ explanation_of ws k
   unfolding explanation_of
   explained_none h = rw (le-ltb k (length ws) h, explanation_of)
 
   pub explained_edge : (l : List ℕ) {m : List ℕ} {r : Reason} {x v p : ℕ} {s z : Bool} → length l ≡ 5 → k < length ws → m ≡ over put l 0 (drop (5 * k) (spread why_numbers ws))
       → x ≡ get_or m 0 0 → s ≡ eqb (get_or m 3 0) 1 → z ≡ eqb (get_or m 4 0) 1 → r ≡ reason_of x (record { a = s; b = z }) → v ≡ get_or m 1 0 → p ≡ get_or m 2 0
-      → Edge (record { reason = r; vertex = v; place = p }) ≡ explanation_of ws k
+      → Some (record { reason = r; vertex = v; place = p }) ≡ explanation_of ws k
   unfolding explanation_of why_numbers
   explained_edge l {m} {r} {x} {v} {p} {s} {z} long h e ex es ez er ev ep =
       let w : Why = get_or ws k unnamed in

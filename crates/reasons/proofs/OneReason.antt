@@ -1,4 +1,5 @@
 -- As many reasons as edges, and each tells its edge: no rule heads two pieces of one body. Assumes nothing.
+use Rattle.std.specs.Prelude.{Option, Some, None}
 use mathlib.Core.Path.{◌≡◌, refl, sym, ap, ◌∙◌}
 use mathlib.Core.Bool.{Bool, true, false}
 use mathlib.Core.List.{List, [], ◌∷◌, ◌++◌}
@@ -19,8 +20,6 @@ use Rattle.contacts.specs.declared.Vertex.{Vertex}
 use Rattle.contacts.specs.declared.Section.{Section}
 use Rattle.contacts.specs.declared.Kind.{Kind}
 use Rattle.contacts.specs.declared.Kind.TheVariants.{Broken, Drawn, Thin}
-use Rattle.contacts.specs.declared.Last.{Last}
-use Rattle.contacts.specs.declared.Last.TheVariants.{Nothing, Held}
 use Rattle.joins.specs.Joins.{same_centre, left_join, right_join, gap_of}
 use Rattle.joins.specs.declared.Cap.{Cap}
 use Rattle.joins.specs.declared.Cap.TheVariants.{Round}
@@ -161,23 +160,23 @@ from_tells i (ps ∷ pss) k d h l = go (ltb k (length (body_whys i ps))) refl (�
 
 -- ---- no rule heads two pieces of a body
 
-meet_without : (t : Vector) (l : Last) (k : Cap) (s : Section) (m : ℕ) → (2 ≡ m → ⊥) → (4 ≡ m → ⊥) → (5 ≡ m → ⊥) → (6 ≡ m → ⊥) → Without m (meet_pieces t l k s)
+meet_without : (t : Vector) (l : Option Section) (k : Cap) (s : Section) (m : ℕ) → (2 ≡ m → ⊥) → (4 ≡ m → ⊥) → (5 ≡ m → ⊥) → (6 ≡ m → ⊥) → Without m (meet_pieces t l k s)
 unfolding Without meet_pieces join_pieces reason_number
-meet_without t (Held prev) k s m h₂ h₄ h₅ h₆ = go (same_centre prev s)
+meet_without t (Some prev) k s m h₂ h₄ h₅ h₆ = go (same_centre prev s)
   where
     go : (x : Bool) → Without m (elim x [ true ↦ record { reason = LeftJoin; edges = left_join t prev s } ∷ record { reason = RightJoin; edges = right_join t prev s } ∷ [] | false ↦ record { reason = Gap; edges = gap_of t prev s } ∷ [] ])
     go true = (h₄, (h₅, tt))
     go false = (h₆, tt)
-meet_without t Nothing k s m h₂ h₄ h₅ h₆ = (h₂, tt)
+meet_without t None k s m h₂ h₄ h₅ h₆ = (h₂, tt)
 
-meet_once : (t : Vector) (l : Last) (k : Cap) (s : Section) → Once (meet_pieces t l k s)
+meet_once : (t : Vector) (l : Option Section) (k : Cap) (s : Section) → Once (meet_pieces t l k s)
 unfolding Once Without meet_pieces join_pieces reason_number
-meet_once t (Held prev) k s = go (same_centre prev s)
+meet_once t (Some prev) k s = go (same_centre prev s)
   where
     go : (x : Bool) → Once (elim x [ true ↦ record { reason = LeftJoin; edges = left_join t prev s } ∷ record { reason = RightJoin; edges = right_join t prev s } ∷ [] | false ↦ record { reason = Gap; edges = gap_of t prev s } ∷ [] ])
     go true = (((λ e. omega arith), tt), (tt, tt))
     go false = (tt, tt)
-meet_once t Nothing k s = (tt, tt)
+meet_once t None k s = (tt, tt)
 
 module _ (t : Vector) (c : Chain) (s : Section) where
   drawn_without : (m : ℕ) → (0 ≡ m → ⊥) → (1 ≡ m → ⊥) → (2 ≡ m → ⊥) → (4 ≡ m → ⊥) → (5 ≡ m → ⊥) → (6 ≡ m → ⊥) → Without m (drawn_pieces t c s)
@@ -194,19 +193,19 @@ module _ (t : Vector) (c : Chain) (s : Section) where
     ),
   )
 
-  finish_drawn_once : (l : Last) (d : Chain) (k : Cap) → Once (finish_pieces t l d k ++ drawn_pieces t c s)
+  finish_drawn_once : (l : Option Section) (d : Chain) (k : Cap) → Once (finish_pieces t l d k ++ drawn_pieces t c s)
   unfolding Once finish_pieces reason_number
-  finish_drawn_once (Held r) d k = (drawn_without 3 (λ e. omega arith) (λ e. omega arith) (λ e. omega arith) (λ e. omega arith) (λ e. omega arith) (λ e. omega arith), drawn_once)
-  finish_drawn_once Nothing d k = (drawn_without 7 (λ e. omega arith) (λ e. omega arith) (λ e. omega arith) (λ e. omega arith) (λ e. omega arith) (λ e. omega arith), drawn_once)
+  finish_drawn_once (Some r) d k = (drawn_without 3 (λ e. omega arith) (λ e. omega arith) (λ e. omega arith) (λ e. omega arith) (λ e. omega arith) (λ e. omega arith), drawn_once)
+  finish_drawn_once None d k = (drawn_without 7 (λ e. omega arith) (λ e. omega arith) (λ e. omega arith) (λ e. omega arith) (λ e. omega arith) (λ e. omega arith), drawn_once)
 
 none_once : Once []
 unfolding Once
 none_once = tt
 
-finish_once : (t : Vector) (l : Last) (c : Chain) (k : Cap) → Once (finish_pieces t l c k)
+finish_once : (t : Vector) (l : Option Section) (c : Chain) (k : Cap) → Once (finish_pieces t l c k)
 unfolding Once Without finish_pieces
-finish_once t (Held s) c k = (tt, tt)
-finish_once t Nothing c k = (tt, tt)
+finish_once t (Some s) c k = (tt, tt)
+finish_once t None c k = (tt, tt)
 
 step_once : (t : Vector) (w : Walk) (b : Vertex) → Once (pieces_of t w b)
 unfolding pieces_of leave_pieces

@@ -1,4 +1,5 @@
 -- The pieces of a body, one after another, are the body. Assumes nothing.
+use Rattle.std.specs.Prelude.{Option, Some, None}
 use mathlib.Core.Path.{◌≡◌, refl, ap, ◌∙◌}
 use mathlib.Core.Bool.{Bool, true, false}
 use mathlib.Core.List.{List, [], ◌∷◌, ◌++◌, append-nil}
@@ -14,8 +15,6 @@ use Rattle.contacts.specs.declared.Vertex.{Vertex}
 use Rattle.contacts.specs.declared.Section.{Section}
 use Rattle.contacts.specs.declared.Kind.{Kind}
 use Rattle.contacts.specs.declared.Kind.TheVariants.{Broken, Drawn, Thin}
-use Rattle.contacts.specs.declared.Last.{Last}
-use Rattle.contacts.specs.declared.Last.TheVariants.{Nothing, Held}
 use Rattle.joins.specs.Joins.{left_join, right_join, same_centre, gap_of, join_of}
 use Rattle.joins.specs.declared.Cap.{Cap}
 use Rattle.joins.specs.declared.Cap.TheVariants.{Round}
@@ -29,10 +28,10 @@ pub body-append : (ps qs : List Piece) → body_of_pieces (ps ++ qs) ≡ body_of
 unfolding body_of_pieces
 body-append ps qs = spread-append (λ (p : Piece). p.edges) ps qs
 
-finish_body : (t : Vector) (l : Last) (c : Chain) (k : Cap) → body_of_pieces (finish_pieces t l c k) ≡ finish_last t l c k
+finish_body : (t : Vector) (l : Option Section) (c : Chain) (k : Cap) → body_of_pieces (finish_pieces t l c k) ≡ finish_last t l c k
 unfolding body_of_pieces spread finish_pieces finish_last
-finish_body t (Held s) c k = append-nil _
-finish_body t Nothing c k = append-nil _
+finish_body t (Some s) c k = append-nil _
+finish_body t None c k = append-nil _
 
 join_body : (t : Vector) (prev next : Section) → body_of_pieces (join_pieces t prev next) ≡ join_of t prev next
 unfolding body_of_pieces spread join_pieces join_of
@@ -42,10 +41,10 @@ join_body t prev next = go (same_centre prev next) refl
     go true e = rw (e, join_pieces, join_of) (ap (λ es. left_join t prev next ++ es) (append-nil (right_join t prev next)))
     go false e = rw (e, join_pieces, join_of) (append-nil (gap_of t prev next))
 
-meet_body : (t : Vector) (l : Last) (k : Cap) (s : Section) → body_of_pieces (meet_pieces t l k s) ≡ meet_last t l k s
+meet_body : (t : Vector) (l : Option Section) (k : Cap) (s : Section) → body_of_pieces (meet_pieces t l k s) ≡ meet_last t l k s
 unfolding body_of_pieces spread meet_pieces meet_last
-meet_body t (Held prev) k s = join_body t prev s
-meet_body t Nothing k s = append-nil _
+meet_body t (Some prev) k s = join_body t prev s
+meet_body t None k s = append-nil _
 
 drawn_body : (t : Vector) (c : Chain) (s : Section) → body_of_pieces (drawn_pieces t c s) ≡ drawn_of t c s
 unfolding body_of_pieces spread drawn_pieces drawn_of

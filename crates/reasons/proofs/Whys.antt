@@ -1,4 +1,5 @@
 -- One law for each case of a body's reasons, with what the code has counted as variables and equations. Assumes nothing.
+use Rattle.std.specs.Prelude.{Option, Some, None}
 use mathlib.Core.Path.{◌≡◌, refl, sym, ap, ◌∙◌}
 use mathlib.Core.Bool.{Bool, true, false}
 use mathlib.Core.List.{List, [], ◌∷◌, ◌++◌, append-nil}
@@ -17,8 +18,6 @@ use Rattle.contacts.specs.declared.Vertex.{Vertex}
 use Rattle.contacts.specs.declared.Exactness.{Exactness}
 use Rattle.contacts.specs.declared.Section.{Section}
 use Rattle.contacts.specs.declared.Kind.TheVariants.{Broken, Drawn, Thin}
-use Rattle.contacts.specs.declared.Last.{Last}
-use Rattle.contacts.specs.declared.Last.TheVariants.{Nothing, Held}
 use Rattle.joins.specs.Joins.{start_cap, left_join, right_join, same_centre, gap_of}
 use Rattle.joins.specs.declared.Cap.{Cap}
 use Rattle.joins.specs.declared.Cap.TheVariants.{Butt, Round}
@@ -33,10 +32,10 @@ use Rattle.reasons.specs.declared.Reason.{Reason}
 use Rattle.reasons.specs.declared.Reason.TheVariants.{LeftSide, RightSide, StartCap, LeftJoin, RightJoin, Gap}
 
 module _ (v : ℕ) (t : Vector) where
-  finish_is : (l : Last) (c : Chain) (k : Cap) → body_whys v (finish_pieces t l c k) ≡ places_from (end_reason l) v 0 (length (finish_last t l c k))
+  finish_is : (l : Option Section) (c : Chain) (k : Cap) → body_whys v (finish_pieces t l c k) ≡ places_from (end_reason l) v 0 (length (finish_last t l c k))
   unfolding body_whys spread piece_whys finish_pieces finish_last end_reason
-  finish_is (Held s) c k = append-nil _
-  finish_is Nothing c k = append-nil _
+  finish_is (Some s) c k = append-nil _
+  finish_is None c k = append-nil _
 
   pub finish_whys : (c : Chain) (k : Cap) {r : Reason} {n : ℕ} → r ≡ end_reason c.last → n ≡ length (finish_of t c k) → body_whys v (finish_pieces t c.last c k) ≡ places_from r v 0 n
   unfolding finish_of
@@ -51,11 +50,11 @@ module _ (v : ℕ) (t : Vector) where
   unfolding body_whys spread piece_whys join_pieces
   join_whys_gap prev next e f = rw (e, f, join_pieces) (append-nil _)
 
-  pub meet_whys_held : (l : Last) (k : Cap) (s : Section) {prev : Section} → l ≡ Held prev → body_whys v (meet_pieces t l k s) ≡ body_whys v (join_pieces t prev s)
+  pub meet_whys_held : (l : Option Section) (k : Cap) (s : Section) {prev : Section} → l ≡ Some prev → body_whys v (meet_pieces t l k s) ≡ body_whys v (join_pieces t prev s)
   unfolding meet_pieces
   meet_whys_held l k s e = rw e
 
-  pub meet_whys_none : (l : Last) (k : Cap) (s : Section) {n : ℕ} → l ≡ Nothing → n ≡ length (start_cap t s k) → body_whys v (meet_pieces t l k s) ≡ places_from StartCap v 0 n
+  pub meet_whys_none : (l : Option Section) (k : Cap) (s : Section) {n : ℕ} → l ≡ None → n ≡ length (start_cap t s k) → body_whys v (meet_pieces t l k s) ≡ places_from StartCap v 0 n
   unfolding body_whys spread piece_whys meet_pieces
   meet_whys_none l k s e f = rw (e, f) (append-nil _)
 

@@ -1,14 +1,11 @@
 -- Reasons in lent numbers, five an edge: the reason's number, the vertex, the place, and whether its start and its end are exact (1 or 0).
-use Rattle.std.specs.Prelude.{Bool, true, false, List, [], ◌∷◌, ℕ, ◌-◌, eqb, ltb, length, get_or, set}
+use Rattle.std.specs.Prelude.{Bool, true, false, List, [], ◌∷◌, ℕ, ◌-◌, eqb, ltb, length, get_or, set, Option, Some, None}
 use Rattle.reasons.specs.Reasons.{reason_number, not_exact, exactness_of}
+use Rattle.contacts.specs.declared.Section.{Section}
 use Rattle.contacts.specs.declared.Exactness.{Exactness}
-use Rattle.contacts.specs.declared.Last.{Last}
-use Rattle.contacts.specs.declared.Last.TheVariants.{Nothing, Held}
 use Rattle.reasons.specs.declared.Reason.{Reason}
 use Rattle.reasons.specs.declared.Reason.TheVariants.{LeftSide, RightSide, StartCap, EndCap, LeftJoin, RightJoin, Gap, Circle}
 use Rattle.reasons.specs.declared.Why.{Why}
-use Rattle.reasons.specs.declared.Explanation.{Explanation}
-use Rattle.reasons.specs.declared.Explanation.TheVariants.{Edge, NoEdge}
 
 -- an exact end is 1, any other 0
 unfoldable pub exact_number : Bool → ℕ
@@ -25,9 +22,9 @@ unfoldable pub put_past : ℕ → List ℕ → ℕ → ℕ → List ℕ
 put_past from l i v = elim (ltb i from) [ true ↦ l | false ↦ set l (i - from) v ]
 
 -- what a finish is named
-unfoldable pub end_reason : Last → Reason
-end_reason (Held s) = EndCap
-end_reason Nothing = Circle
+unfoldable pub end_reason : Option Section → Reason
+end_reason (Some s) = EndCap
+end_reason None = Circle
 
 -- ---- one edge of a list
 
@@ -52,5 +49,5 @@ abbrev pub unnamed : Why
 unnamed = record { reason = LeftSide not_exact; vertex = 0; place = 0 }
 
 -- why the edge k is there, if there is one
-unfoldable pub explanation_of : List Why → ℕ → Explanation
-explanation_of ws k = elim (ltb k (length ws)) [ true ↦ Edge (get_or ws k unnamed) | false ↦ NoEdge ]
+unfoldable pub explanation_of : List Why → ℕ → Option Why
+explanation_of ws k = elim (ltb k (length ws)) [ true ↦ Some (get_or ws k unnamed) | false ↦ None ]

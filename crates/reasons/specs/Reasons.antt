@@ -1,5 +1,5 @@
 -- Document 02, request 1, "Why is this edge here?": the edges of each body by the rule that emits them; request 7: whether the ends of sides are exact.
-use Rattle.std.specs.Prelude.{◌≡◌, true, false, List, [], ◌∷◌, ◌++◌, ℕ, zero, suc, ◌+◌, ◌<◌, eqb, length, get_or}
+use Rattle.std.specs.Prelude.{◌≡◌, true, false, List, [], ◌∷◌, ◌++◌, ℕ, zero, suc, ◌+◌, ◌<◌, eqb, length, get_or, Option, Some, None}
 use Rattle.runs.specs.Runs.{spread}
 use Rattle.plane.specs.Directions.{step_of}
 use Rattle.plane.specs.declared.Vector.{Vector}
@@ -11,8 +11,6 @@ use Rattle.contacts.specs.declared.Vertex.{Vertex}
 use Rattle.contacts.specs.declared.Exactness.{Exactness}
 use Rattle.contacts.specs.declared.Section.{Section}
 use Rattle.contacts.specs.declared.Kind.TheVariants.{Broken, Drawn, Thin}
-use Rattle.contacts.specs.declared.Last.{Last}
-use Rattle.contacts.specs.declared.Last.TheVariants.{Nothing, Held}
 use Rattle.joins.specs.Joins.{start_cap, end_cap, left_join, right_join, same_centre, gap_of}
 use Rattle.joins.specs.declared.Cap.{Cap}
 use Rattle.joins.specs.declared.Cap.TheVariants.{Round}
@@ -31,9 +29,9 @@ pub record Piece : Type 0 where
   pub edges : List Edge
 
 -- Finish: the end cap, or the circle of a lone vertex. A circle within a cap or a join bears that one's name.
-unfoldable pub finish_pieces : Vector → Last → Chain → Cap → List Piece
-finish_pieces t (Held s) c k = record { reason = EndCap; edges = end_cap t s k } ∷ []
-finish_pieces t Nothing c k = record { reason = Circle; edges = lone_of t c k } ∷ []
+unfoldable pub finish_pieces : Vector → Option Section → Chain → Cap → List Piece
+finish_pieces t (Some s) c k = record { reason = EndCap; edges = end_cap t s k } ∷ []
+finish_pieces t None c k = record { reason = Circle; edges = lone_of t c k } ∷ []
 
 -- Join: left and then right, or the caps that close the gap between centres that differ; or the start cap.
 unfoldable pub join_pieces : Vector → Section → Section → List Piece
@@ -42,9 +40,9 @@ join_pieces t prev next = elim (same_centre prev next) [
   | false ↦ record { reason = Gap; edges = gap_of t prev next } ∷ []
 ]
 
-unfoldable pub meet_pieces : Vector → Last → Cap → Section → List Piece
-meet_pieces t (Held prev) k s = join_pieces t prev s
-meet_pieces t Nothing k s = record { reason = StartCap; edges = start_cap t s k } ∷ []
+unfoldable pub meet_pieces : Vector → Option Section → Cap → Section → List Piece
+meet_pieces t (Some prev) k s = join_pieces t prev s
+meet_pieces t None k s = record { reason = StartCap; edges = start_cap t s k } ∷ []
 
 -- the exactness of an edge that runs from b to a
 unfoldable pub backward : Exactness → Exactness

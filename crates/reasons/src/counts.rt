@@ -1,5 +1,5 @@
 // How many edges each rule emits: the rule's own function, over no room.
-ghost use Rattle.std.specs.Prelude.{◌≡◌, true, length};
+ghost use Rattle.std.specs.Prelude.{◌≡◌, true, false, length};
 ghost use Rattle.plane.specs.Vectors.{Near};
 ghost use Rattle.plane.specs.Directions.{UnitLong};
 ghost use Rattle.runs.specs.Runs.{Room};
@@ -14,7 +14,7 @@ ghost use Rattle.reasons.specs.Lists.{end_reason};
 ghost use Rattle.reasons.specs.Counts.{Counts};
 
 use crate::Reason;
-use contacts::{Last, Section, Vertex};
+use contacts::{Section, Vertex};
 use folds::Pen;
 use joins::Cap;
 use joins::builder_join::{arc_about, gap, left_turns, right_turns, start_cap};
@@ -31,13 +31,21 @@ pub struct Counted {
 }
 
 // What a finish is named: the end cap of the last section, or the circle of a lone vertex.
-pub fn end_reason(last: Last) -> Reason
+pub fn end_reason(last: Option<Section>) -> Reason
     ensures { result ≡ end_reason last }
 {
     match last {
-        Last::Held(_s) => Reason::EndCap,
-        Last::Nothing => Reason::Circle,
+        Some(_) => Reason::EndCap,
+        None => Reason::Circle,
     }
+}
+
+// The pen that lays every edge by itself.
+fn plain(step: Vector) -> Pen
+    ensures step { result.step ≡ step }
+    ensures folds { result.folds ≡ false }
+{
+    Pen { step, folds: false }
 }
 
 // A side of a section, or a straight edge anywhere.
@@ -45,8 +53,7 @@ pub fn side(p: Point, q: Point) -> usize
     requires { Near p × Near q }
     ensures { result ≡ length (edge_of p q) }
 {
-    let mut nowhere = [0i32; 0];
-    edge(&mut nowhere, 0, p, q) / 4
+    edge(&mut [], 0, p, q) / 4
 }
 
 // What ends a chain.
@@ -54,13 +61,7 @@ pub fn finish(t: Vector, chain: Chain, cap: Cap) -> usize
     requires { UnitLong t × AroundChain chain }
     ensures { result ≡ length (finish_of t chain cap) }
 {
-    let mut nowhere = [0i32; 0];
-    let pen = Pen {
-        step: t,
-        folds: false,
-    };
-    let ended = chain.finish(&mut nowhere, 0, pen, cap);
-    ended.at / 4
+    chain.finish(&mut [], 0, plain(t), cap).at / 4
 }
 
 // The start cap.
@@ -68,12 +69,7 @@ pub fn start(t: Vector, s: Section, cap: Cap) -> usize
     requires { UnitLong t × Around s }
     ensures { result ≡ length (start_cap t s cap) }
 {
-    let mut nowhere = [0i32; 0];
-    let pen = Pen {
-        step: t,
-        folds: false,
-    };
-    start_cap(&mut nowhere, 0, pen, s, cap) / 4
+    start_cap(&mut [], 0, plain(t), s, cap) / 4
 }
 
 // An arc about a vertex.
@@ -82,12 +78,7 @@ fn about(t: Vector, v: Vertex, p: Point, q: Point, choice: Sweep) -> usize
     requires room { Room edge_numbers 0 (arc_about t v p q choice) }
     ensures { result ≡ length (arc_about t v p q choice) }
 {
-    let mut nowhere = [0i32; 0];
-    let pen = Pen {
-        step: t,
-        folds: false,
-    };
-    arc_about(&mut nowhere, 0, pen, v, p, q, choice) / 4
+    arc_about(&mut [], 0, plain(t), v, p, q, choice) / 4
 }
 
 // The left of a join. Its own function is left to draw, whose code it is then laid into, and so is that of its right.
@@ -95,13 +86,11 @@ pub fn left(t: Vector, prev: Section, next: Section) -> usize
     requires { UnitLong t × Around prev × Around next × (same_centre prev next ≡ true) }
     ensures { result ≡ length (left_join t prev next) }
 {
-    let p = next.left.a;
-    let q = prev.left.b;
-    let v = next.a;
     if left_turns(prev, next) {
-        return about(t, v, p, q, Sweep::Minor);
+        about(t, next.a, next.left.a, prev.left.b, Sweep::Minor)
+    } else {
+        side(next.left.a, prev.left.b)
     }
-    side(p, q)
 }
 
 // The right of a join.
@@ -109,13 +98,11 @@ pub fn right(t: Vector, prev: Section, next: Section) -> usize
     requires { UnitLong t × Around prev × Around next × (same_centre prev next ≡ true) }
     ensures { result ≡ length (right_join t prev next) }
 {
-    let p = prev.right.b;
-    let q = next.right.a;
-    let v = prev.b;
     if right_turns(prev, next) {
-        return about(t, v, p, q, Sweep::Major);
+        about(t, prev.b, prev.right.b, next.right.a, Sweep::Major)
+    } else {
+        side(prev.right.b, next.right.a)
     }
-    side(p, q)
 }
 
 // The caps across a gap.
@@ -123,12 +110,7 @@ pub fn across(t: Vector, prev: Section, next: Section) -> usize
     requires { UnitLong t × Around prev × Around next }
     ensures { result ≡ length (gap_of t prev next) }
 {
-    let mut nowhere = [0i32; 0];
-    let pen = Pen {
-        step: t,
-        folds: false,
-    };
-    gap(&mut nowhere, 0, pen, prev, next) / 4
+    gap(&mut [], 0, plain(t), prev, next) / 4
 }
 
 // A whole step: the walk after it too.
@@ -136,11 +118,9 @@ pub fn step(t: Vector, walk: Walk, b: Vertex) -> Counted
     requires { UnitLong t × AroundWalk walk × Inside b }
     ensures { Counts t walk b result }
 {
-    let mut nowhere = [0i32; 0];
-    let stepped = walk.step(&mut nowhere, 0, t, b);
-    let next = stepped.walk;
+    let stepped = walk.step(&mut [], 0, t, b);
     Counted {
-        walk: next,
+        walk: stepped.walk,
         count: stepped.at / 4,
     }
 }

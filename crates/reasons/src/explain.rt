@@ -5,35 +5,23 @@ ghost use Rattle.reasons.specs.Reasons.{whys_of};
 ghost use Rattle.reasons.specs.Lists.{reason_of, explanation_of};
 
 use crate::listing::list_path;
-use crate::{Explanation, Reason, Why};
+use crate::{Reason, Why};
 use contacts::Exactness;
 
 // The reason that has a number; a side has this exactness.
 fn named(n: usize, exact: Exactness) -> Reason
     ensures { result ≡ reason_of n exact }
 {
-    if n == 0 {
-        return Reason::LeftSide(exact);
+    match n {
+        0 => Reason::LeftSide(exact),
+        1 => Reason::RightSide(exact),
+        2 => Reason::StartCap,
+        3 => Reason::EndCap,
+        4 => Reason::LeftJoin,
+        5 => Reason::RightJoin,
+        6 => Reason::Gap,
+        _ => Reason::Circle,
     }
-    if n == 1 {
-        return Reason::RightSide(exact);
-    }
-    if n == 2 {
-        return Reason::StartCap;
-    }
-    if n == 3 {
-        return Reason::EndCap;
-    }
-    if n == 4 {
-        return Reason::LeftJoin;
-    }
-    if n == 5 {
-        return Reason::RightJoin;
-    }
-    if n == 6 {
-        return Reason::Gap;
-    }
-    Reason::Circle
 }
 
 // Why an edge of a path is there; `one` is room for its five numbers.
@@ -43,26 +31,24 @@ pub fn explain_path(
     grade: u32,
     edge: usize,
     one: &mut [usize],
-) -> Explanation
+) -> Option<Why>
     requires { (n ≡ length (path_of path.now)) × Within grade (path_of path.now) × (length one.old ≡ 5) }
     ensures { result ≡ explanation_of (whys_of grade (path_of path.now)) edge }
 {
     if 0x1_0000_0000 <= edge {
-        return Explanation::NoEdge;
+        return None;
     }
     let from = 5 * edge;
-    let numbers = list_path(path, n, grade, from, one);
-    if numbers <= from {
-        return Explanation::NoEdge;
+    if list_path(path, n, grade, from, one) <= from {
+        return None;
     }
-    let start = one[3] == 1;
-    let end = one[4] == 1;
-    let reason = named(one[0], Exactness { a: start, b: end });
-    let vertex = one[1];
-    let place = one[2];
-    Explanation::Edge(Why {
-        reason,
-        vertex,
-        place,
+    let exact = Exactness {
+        a: one[3] == 1,
+        b: one[4] == 1,
+    };
+    Some(Why {
+        reason: named(one[0], exact),
+        vertex: one[1],
+        place: one[2],
     })
 }

@@ -27,16 +27,9 @@ pub fn reason_number(reason: Reason) -> usize
 pub fn exactness(reason: Reason) -> Exactness
     ensures { result ≡ exactness_of reason }
 {
-    let none = Exactness { a: false, b: false };
     match reason {
-        Reason::LeftSide(exact) => exact,
-        Reason::RightSide(exact) => exact,
-        Reason::StartCap => none,
-        Reason::EndCap => none,
-        Reason::LeftJoin => none,
-        Reason::RightJoin => none,
-        Reason::Gap => none,
-        Reason::Circle => none,
+        Reason::LeftSide(exact) | Reason::RightSide(exact) => exact,
+        _ => Exactness { a: false, b: false },
     }
 }
 
@@ -54,19 +47,15 @@ pub fn backwards(exact: Exactness) -> Exactness
 pub fn exact_number(exact: bool) -> usize
     ensures { result ≡ exact_number exact }
 {
-    if exact { 1 } else { 0 }
+    usize::from(exact)
 }
 
 // The number w at i of a row of which the room holds the numbers from `from` on; nothing before the room and nothing past it.
 fn put_past(out: &mut [usize], from: usize, i: usize, w: usize)
     ensures { out.new ≡ put_past from out.old i w }
 {
-    if i < from {
-        return;
-    }
-    let k = i - from;
-    if k < out.len() {
-        out[k] = w;
+    if from <= i && i - from < out.len() {
+        out[i - from] = w;
     }
 }
 
@@ -75,11 +64,10 @@ fn put_why(out: &mut [usize], from: usize, at: usize, why: Why) -> usize
     requires { at + 5 < 2 ^ 64 }
     ensures { Runs (put_past from) why_numbers out.old at (why ∷ []) out.new result }
 {
-    let reason = why.reason;
-    put_past(out, from, at, reason_number(reason));
+    put_past(out, from, at, reason_number(why.reason));
     put_past(out, from, at + 1, why.vertex);
     put_past(out, from, at + 2, why.place);
-    let exact = exactness(reason);
+    let exact = exactness(why.reason);
     put_past(out, from, at + 3, exact_number(exact.a));
     put_past(out, from, at + 4, exact_number(exact.b));
     at + 5
@@ -98,8 +86,7 @@ pub fn label(
     ensures { Runs (put_past from) why_numbers out.old at (places_from reason vertex 0 count) out.new result }
 {
     let mut i = at;
-    let mut place: usize = 0;
-    while place < count {
+    for place in 0..count {
         i = put_why(
             out,
             from,
@@ -110,7 +97,6 @@ pub fn label(
                 place,
             },
         );
-        place += 1;
     }
     i
 }

@@ -29,10 +29,3 @@ pub struct Why {
     pub vertex: usize,
     pub place: usize,
 }
-
-// Why the edge of a number is there, if the path has one.
-#[derive(Clone, Copy)]
-pub enum Explanation {
-    Edge(Why),
-    NoEdge,
-}

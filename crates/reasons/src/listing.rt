@@ -17,12 +17,11 @@ use crate::counts::{across, end_reason, finish, left, right, side, start, step a
 use crate::labels::{backwards, label};
 use contacts::math::{centre, kind};
 use contacts::sections::{covered, section};
-use contacts::{Kind, Last, Section, Vertex};
+use contacts::{Kind, Section, Vertex};
 use joins::Cap;
 use paths::paths::vertex;
 use plane::Vector;
 use plane::direction::step;
-use plane::vectors::same;
 use variable_stroke::{Chain, Walk};
 
 // What ends a chain.
@@ -39,10 +38,8 @@ fn finish_whys(
     requires room { Room why_numbers at (body_whys v (finish_pieces t chain.last chain cap)) }
     ensures { Runs (put_past from) why_numbers out.old at (body_whys v (finish_pieces t chain.last chain cap)) out.new result }
 {
-    let last = chain.last;
-    let reason = end_reason(last);
     let n = finish(t, chain, cap);
-    label(out, from, at, v, reason, n)
+    label(out, from, at, v, end_reason(chain.last), n)
 }
 
 // A join, left and then right, or the closing of a gap.
@@ -59,14 +56,15 @@ fn join_whys(
     requires room { Room why_numbers at (body_whys v (join_pieces t prev next)) }
     ensures { Runs (put_past from) why_numbers out.old at (body_whys v (join_pieces t prev next)) out.new result }
 {
-    if same(centre(prev.b), centre(next.a)) {
+    if centre(prev.b) == centre(next.a) {
         let n = left(t, prev, next);
         let i = label(out, from, at, v, Reason::LeftJoin, n);
         let m = right(t, prev, next);
-        return label(out, from, i, v, Reason::RightJoin, m);
+        label(out, from, i, v, Reason::RightJoin, m)
+    } else {
+        let n = across(t, prev, next);
+        label(out, from, at, v, Reason::Gap, n)
     }
-    let n = across(t, prev, next);
-    label(out, from, at, v, Reason::Gap, n)
 }
 
 // A join to the last section, or the start cap.
@@ -83,12 +81,10 @@ fn meet_whys(
     requires room { Room why_numbers at (body_whys v (meet_pieces t chain.last chain.cap s)) }
     ensures { Runs (put_past from) why_numbers out.old at (body_whys v (meet_pieces t chain.last chain.cap s)) out.new result }
 {
-    let last = chain.last;
-    let cap = chain.cap;
-    match last {
-        Last::Held(prev) => join_whys(out, from, at, v, t, prev, s),
-        Last::Nothing => {
-            let n = start(t, s, cap);
+    match chain.last {
+        Some(prev) => join_whys(out, from, at, v, t, prev, s),
+        None => {
+            let n = start(t, s, chain.cap);
             label(out, from, at, v, Reason::StartCap, n)
         },
     }
@@ -108,14 +104,17 @@ fn drawn_whys(
     requires room { Room why_numbers at (body_whys v (drawn_pieces t chain s)) }
     ensures { Runs (put_past from) why_numbers out.old at (body_whys v (drawn_pieces t chain s)) out.new result }
 {
-    let l = s.left;
-    let r = s.right;
-    let n = side(l.b, l.a);
-    let left_exact = backwards(s.exact.left);
-    let i = label(out, from, at, v, Reason::LeftSide(left_exact), n);
-    let m = side(r.a, r.b);
-    let right_exact = s.exact.right;
-    let j = label(out, from, i, v, Reason::RightSide(right_exact), m);
+    let n = side(s.left.b, s.left.a);
+    let i = label(
+        out,
+        from,
+        at,
+        v,
+        Reason::LeftSide(backwards(s.exact.left)),
+        n,
+    );
+    let m = side(s.right.a, s.right.b);
+    let j = label(out, from, i, v, Reason::RightSide(s.exact.right), m);
     meet_whys(out, from, j, v, t, chain, s)
 }
 
@@ -133,12 +132,11 @@ fn leave_whys(
     requires room { Room why_numbers at (body_whys v (leave_pieces t w b)) }
     ensures { Runs (put_past from) why_numbers out.old at (body_whys v (leave_pieces t w b)) out.new result }
 {
-    let chain = w.chain;
-    let previous = w.previous;
-    if covered(previous, b) {
-        return finish_whys(out, from, at, v, t, chain, Cap::Round);
+    if covered(w.previous, b) {
+        finish_whys(out, from, at, v, t, w.chain, Cap::Round)
+    } else {
+        at
     }
-    at
 }
 
 // The chain that goes on: one started anew where b is covered.
@@ -146,13 +144,11 @@ fn left_chain(w: Walk, b: Vertex) -> Chain
     requires { AroundWalk w × Inside b }
     ensures { result ≡ leave_chain w b }
 {
-    let a = w.at;
-    let chain = w.chain;
-    let previous = w.previous;
-    if covered(previous, b) {
-        return Chain::new(a, Cap::Butt);
+    if covered(w.previous, b) {
+        Chain::new(w.at, Cap::Butt)
+    } else {
+        w.chain
     }
-    chain
 }
 
 // A drawn step.
@@ -169,11 +165,8 @@ fn section_whys(
     requires room { Room why_numbers at (body_whys v (pieces_of t w b)) }
     ensures { Runs (put_past from) why_numbers out.old at (body_whys v (pieces_of t w b)) out.new result }
 {
-    let a = w.at;
     let i = leave_whys(out, from, at, v, t, w, b);
-    let chain = left_chain(w, b);
-    let s = section(a, b);
-    drawn_whys(out, from, i, v, t, chain, s)
+    drawn_whys(out, from, i, v, t, left_chain(w, b), section(w.at, b))
 }
 
 // The step to b, which emits so many edges.
@@ -191,12 +184,8 @@ fn step_whys(
     requires room { Room why_numbers at (body_whys v (pieces_of t w b)) }
     ensures { Runs (put_past from) why_numbers out.old at (body_whys v (pieces_of t w b)) out.new result }
 {
-    let a = w.at;
-    let chain = w.chain;
-    let last = chain.last;
-    let k = kind(a, b);
-    match k {
-        Kind::Broken => label(out, from, at, v, end_reason(last), count),
+    match kind(w.at, b) {
+        Kind::Broken => label(out, from, at, v, end_reason(w.chain.last), count),
         Kind::Drawn => section_whys(out, from, at, v, t, w, b),
         Kind::Thin => leave_whys(out, from, at, v, t, w, b),
     }
@@ -204,23 +193,19 @@ fn step_whys(
 
 // Every body from the first vertex on, and the closing body.
 fn go_whys(path: &[i32], n: usize, t: Vector, from: usize, out: &mut [usize]) -> usize
-    requires n_value { (n ≡ length (path_of path.now)) × (first_outside (path_of path.now) ≡ length (path_of path.now)) × UnitLong t × (0 < n) }
+    requires within { (n ≡ length (path_of path.now)) × (first_outside (path_of path.now) ≡ length (path_of path.now)) × UnitLong t × (0 < n) }
     requires room { Room why_numbers 0 (whys_from 0 (pieces_at t (path_of path.now))) }
     ensures { Runs (put_past from) why_numbers out.old 0 (whys_from 0 (pieces_at t (path_of path.now))) out.new result }
 {
     let mut w = Walk::new(vertex(path, 0));
     let mut at: usize = 0;
-    let mut k: usize = 1;
-    while k < n {
+    for k in 1..n {
         let b = vertex(path, k);
         let s = counted(t, w, b);
         at = step_whys(out, from, at, k, t, w, b, s.count);
         w = s.walk;
-        k += 1;
     }
-    let chain = w.chain;
-    let closing = w.closing;
-    finish_whys(out, from, at, n, t, chain, closing)
+    finish_whys(out, from, at, n, t, w.chain, w.closing)
 }
 
 // Why the edges of a path are there, five numbers an edge, from the number at `from` on, as many as the room holds; handed back is how many numbers there are.
@@ -230,7 +215,8 @@ pub fn list_path(path: &[i32], n: usize, grade: u32, from: usize, out: &mut [usi
     ensures count { result ≡ 5 * length (whys_of grade (path_of path.now)) }
 {
     if n == 0 {
-        return 0;
+        0
+    } else {
+        go_whys(path, n, step(grade), from, out)
     }
-    go_whys(path, n, step(grade), from, out)
 }

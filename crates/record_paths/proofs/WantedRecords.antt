@@ -1,4 +1,5 @@
 -- What is wanted of a path of records, and what was gathered of it. Assumes nothing.
+use Rattle.std.specs.Prelude.{Result, Ok}
 use mathlib.Core.Path.{◌≡◌, refl, sym, ap, ◌∙◌}
 use mathlib.Core.Bool.{Bool, true, false}
 use mathlib.Core.List.{List, ◌++◌}
@@ -18,8 +19,7 @@ use Rattle.replies.specs.Replies.{first_row, draw_grade_row, count_row}
 use Rattle.records.specs.Records.{record_numbers, record_posts, post_numbers, Gathers}
 use Rattle.records.specs.declared.Record.{Record}
 use Rattle.records.proofs.Gathered.{records_three, posts_one, posts_many}
-use Rattle.replies.specs.declared.path_rows.PathCheck.{PathCheck}
-use Rattle.replies.specs.declared.path_rows.PathCheck.TheVariants.{Passed}
+use Rattle.replies.specs.declared.Refusal.{Refusal}
 use Rattle.record_paths.specs.RecordPaths.{wanted_of, Gathered, CountSays}
 
 -- all are wanted, and are at most 4,096, or none
@@ -103,7 +103,7 @@ gathered_path numbers vs {m} {g} {l} e room h =
     record { long = records_three vs; many = posts_many vs; first = rw (← e) first; after = rw (← e) after }
 
 -- the path that is gathered, where the count passes, and its posts
-module _ (numbers : List ℤ) {n g m : ℕ} {c : PathCheck} (path : List ℤ) (posts : List ℕ) (s : CountSays n g c) (e : c ≡ Passed m) (h : Gathered numbers n g path posts) where
+module _ (numbers : List ℤ) {n g m : ℕ} {c : Result ℕ Refusal} (path : List ℤ) (posts : List ℕ) (s : CountSays n g c) (e : c ≡ Ok m) (h : Gathered numbers n g path posts) where
   wanted_all : m ≡ wanted_of n g
   wanted_all = (s.passed m e).0 ∙ sym (s.passed m e).1
 

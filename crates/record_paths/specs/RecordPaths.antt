@@ -1,5 +1,5 @@
 -- Document 02, requests 4 and 11: a path of n records as numbers, three a record, and their posts, of which those stand gathered that draw and keep read.
-use Rattle.std.specs.Prelude.{◌≡◌, List, [], ◌∷◌, ℕ, ◌*◌, ◌≤◌, ℤ, length, take, drop}
+use Rattle.std.specs.Prelude.{◌≡◌, List, [], ◌∷◌, ℕ, ◌*◌, ◌≤◌, ℤ, length, take, drop, Result, Ok, Err}
 use Rattle.runs.specs.Runs.{spread}
 use Rattle.words.specs.Words.{words_of}
 use Rattle.records.specs.Records.{record_numbers}
@@ -7,8 +7,6 @@ use Rattle.records.specs.declared.Record.{Record}
 use Rattle.replies.specs.Replies.{first_row, draw_grade_row, count_row}
 use Rattle.replies.specs.Checks.{PathSays}
 use Rattle.replies.specs.declared.Refusal.{Refusal}
-use Rattle.replies.specs.declared.path_rows.PathCheck.{PathCheck}
-use Rattle.replies.specs.declared.path_rows.PathCheck.TheVariants.{Passed, Refused}
 use Rattle.drawing.specs.Drawing.{draw_reply}
 use Rattle.keeping.specs.Keeping.{keep_reply}
 
@@ -24,10 +22,10 @@ pub record Gathered (numbers : List ℤ) (n grade : ℕ) (path : List ℤ) (post
   pub after : words_of (take (wanted_of n grade) (drop (3 * wanted_of n grade) numbers)) ≡ take (wanted_of n grade) posts
 
 -- What grade and count decide of every path of so many records.
-pub record CountSays (n grade : ℕ) (r : PathCheck) : Type 0 where
-  pub refused : (path : List ℤ) (why : Refusal) → length path ≡ 3 * n → r ≡ Refused why → PathSays path grade r
-  pub wanted : (why : Refusal) → r ≡ Refused why → wanted_of n grade ≡ 0
-  pub passed : (m : ℕ) → r ≡ Passed m → (m ≡ n) × (wanted_of n grade ≡ n) × (n ≤ 4096)
+pub record CountSays (n grade : ℕ) (r : Result ℕ Refusal) : Type 0 where
+  pub refused : (path : List ℤ) (why : Refusal) → length path ≡ 3 * n → r ≡ Err why → PathSays path grade r
+  pub wanted : (why : Refusal) → r ≡ Err why → wanted_of n grade ≡ 0
+  pub passed : (m : ℕ) → r ≡ Ok m → (m ≡ n) × (wanted_of n grade ≡ n) × (n ≤ 4096)
 
 -- Records are whole vertices: 1 is the reply to none.
 abbrev pub NeverUneven : Type 0

@@ -5,33 +5,28 @@ ghost use Rattle.std.specs.Prelude.{◌≡◌, ◌*◌, ◌≤◌};
 ghost use Rattle.record_paths.specs.RecordPaths.{wanted_of, CountSays};
 
 use replies::Refusal;
-use replies::path_rows::PathCheck;
 
 // The rows that grade and count decide.
-pub fn check_count(n: usize, grade: u32) -> PathCheck
+pub fn check_count(n: usize, grade: u32) -> Result<usize, Refusal>
     ensures { CountSays n grade result }
 {
     if grade < 2 {
-        return PathCheck::Refused(Refusal::Grade(grade));
+        return Err(Refusal::Grade(grade));
     }
     if 8 < grade {
-        return PathCheck::Refused(Refusal::Grade(grade));
+        return Err(Refusal::Grade(grade));
     }
     if 4096 < n {
-        return PathCheck::Refused(Refusal::TooMany(n));
+        return Err(Refusal::TooMany(n));
     }
-    PathCheck::Passed(n)
+    Ok(n)
 }
 
 // How many of n records are wanted.
 pub fn wanted(n: usize, grade: u32) -> usize
     ensures { result ≡ wanted_of n grade }
 {
-    let checked = check_count(n, grade);
-    match checked {
-        PathCheck::Refused(_) => 0,
-        PathCheck::Passed(m) => m,
-    }
+    check_count(n, grade).unwrap_or(0)
 }
 
 // How many numbers so many vertices are.

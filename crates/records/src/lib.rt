@@ -21,27 +21,19 @@ pub fn put_record(numbers: &mut [i32], m: usize, k: usize, v: Record)
     requires { (k < m) × (4 * m ≤ length numbers.old) }
     ensures { PutsRecord numbers.old m k v numbers.new }
 {
-    let x = v.x;
-    let y = v.y;
-    let radius = v.radius;
-    let number = v.number;
-    let post = signed(number);
     let at = 3 * k;
-    let past = 3 * m + k;
-    numbers[at] = x;
-    numbers[at + 1] = y;
-    numbers[at + 2] = radius;
-    numbers[past] = post;
+    numbers[at] = v.x;
+    numbers[at + 1] = v.y;
+    numbers[at + 2] = v.radius;
+    numbers[3 * m + k] = signed(v.number);
 }
 
-// The numbers of the first m records, in order, and then their point numbers: each record is read once and handed on by value.
+// The numbers of the first m records, m being where the point numbers begin as well, in order, and then their point numbers: each record is read once and handed on by value.
 pub fn gather(path: &[Record], m: usize, numbers: &mut [i32])
     requires { (m ≤ length path.now) × (4 * m ≤ length numbers.old) }
     ensures { Gathers numbers.old m (take m path.now) numbers.new }
 {
-    let mut i: usize = 0;
-    while i < m {
+    for i in 0..m {
         put_record(numbers, m, i, path[i]);
-        i += 1;
     }
 }

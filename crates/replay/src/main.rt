@@ -5,26 +5,16 @@ mod case;
 mod edit;
 mod reply;
 
+use case::Memory;
 use cases::stream;
-use lines::{line, page};
+use lines::page;
 use std::io;
 use std::io::{BufWriter, Read, Write};
 
 // The answer to each line of the text.
-fn answers<W: Write>(
-    text: &[u8],
-    page: &mut W,
-    path: &mut [i32],
-    room: &mut [i32],
-    store: &mut [u8],
-    minus: &mut [bool; 16],
-    sizes: &mut [u64; 16],
-) -> io::Result<()> {
-    let mut at: usize = 0;
-    while at < text.len() {
-        let end = line::end(text, at);
-        case::print_line(&text[at..end], page, path, room, store, minus, sizes)?;
-        at = end + 1;
+fn answers<W: Write>(text: &[u8], page: &mut W, memory: &mut Memory) -> io::Result<()> {
+    for line in text.split_inclusive(|byte| *byte == b'\n') {
+        case::print_line(line.strip_suffix(b"\n").unwrap_or(line), page, memory)?;
     }
     Ok(())
 }
@@ -34,20 +24,16 @@ fn replay<R: Read, W: Write>(
     input: &mut R,
     buffer: &mut [u8],
     page: &mut W,
-    path: &mut [i32],
-    room: &mut [i32],
-    store: &mut [u8],
-    minus: &mut [bool; 16],
-    sizes: &mut [u64; 16],
+    memory: &mut Memory,
 ) -> io::Result<()> {
-    let mut kept: usize = 0;
+    let mut kept = 0;
     for _ in 0..u64::MAX {
         let filled = stream::fill(input, buffer, kept)?;
         let end = stream::ready(buffer, filled);
         if end == 0 {
             return left_over(page, filled);
         }
-        answers(&buffer[0..end], page, path, room, store, minus, sizes)?;
+        answers(&buffer[..end], page, memory)?;
         kept = stream::to_front(buffer, end, filled);
     }
     Ok(())
@@ -58,7 +44,7 @@ fn left_over<W: Write>(page: &mut W, count: usize) -> io::Result<()> {
     if count == 0 {
         return Ok(());
     }
-    page::text(page, b"a line is too long\n")
+    writeln!(page, "a line is too long")
 }
 
 // Owns all the memory, and lends it.
@@ -66,20 +52,11 @@ fn main(rt: HostRuntime) -> io::Result<()> {
     let mut input = rt.reader();
     let mut buffer = vec![in rt.alloc(); 0u8; 262144]?;
     let mut page = BufWriter::new(rt.alloc(), io::writer(&rt))?;
-    let mut path = vec![in rt.alloc(); 0i32; 16384]?;
-    let mut room = vec![in rt.alloc(); 0i32; 131072]?;
-    let mut store = vec![in rt.alloc(); 0u8; 524288]?;
-    let mut minus = [false; 16];
-    let mut sizes = [0u64; 16];
-    replay(
-        &mut input,
-        &mut buffer,
-        &mut page,
-        &mut path,
-        &mut room,
-        &mut store,
-        &mut minus,
-        &mut sizes,
-    )?;
+    let mut memory = Memory {
+        path: vec![in rt.alloc(); 0i32; 16384]?,
+        room: vec![in rt.alloc(); 0i32; 131072]?,
+        store: vec![in rt.alloc(); 0u8; 524288]?,
+    };
+    replay(&mut input, &mut buffer, &mut page, &mut memory)?;
     page::finish(&mut page)
 }

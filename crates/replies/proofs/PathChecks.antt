@@ -1,7 +1,8 @@
 -- The rows of a path, one law for each outcome of its tests; and what a walk over a path that passed comes to. Assumes nothing.
+use Rattle.std.specs.Prelude.{Result, Ok, Err}
 use mathlib.Core.Path.{◌≡◌, refl, sym, ap, ◌∙◌}
 use mathlib.Core.List.{List, ◌++◌}
-use Prim.Native.Nat.{ℕ, ◌+◌, ◌*◌, ◌/◌, ◌%◌, ◌≤◌, ◌<◌}
+use Prim.Native.Nat.{ℕ, ◌*◌, ◌/◌, ◌%◌, ◌≤◌, ◌<◌}
 use native.Mathlib.Nat.{le_antisymm}
 use native.Mathlib.Omega.{arith}
 use lib.IntN.{ℤ}
@@ -25,37 +26,35 @@ use Rattle.replies.proofs.Rows.{rows_append}
 use Rattle.contacts.proofs.Allowed.{outside_most}
 use Rattle.replies.specs.declared.Refusal.{Refusal}
 use Rattle.replies.specs.declared.Refusal.TheVariants.{Uneven, TooMany, Grade, Outside}
-use Rattle.replies.specs.declared.path_rows.PathCheck.{PathCheck}
-use Rattle.replies.specs.declared.path_rows.PathCheck.TheVariants.{Passed, Refused}
 
 -- ---- the rows
 
 -- a refusal is no pass
-refused_not : (r : Refusal) (n : ℕ) → Refused r ≡ Passed n → ⊥
+refused_not : (r : Refusal) (n : ℕ) → ◌≡◌ {A = Result ℕ Refusal} (Err r) (Ok n) → ⊥
 refused_not r n e = let z : ◌≡◌ {A = ℕ} 0 1 = cc in omega arith
 
 module _ (path : List ℤ) (g : ℕ) where
-  refused : (r : Refusal) → ((more : Reply) → first_row (path_rows path g) more ≡ refusal_of r) → PathSays path g (Refused r)
+  refused : (r : Refusal) → ((more : Reply) → first_row (path_rows path g) more ≡ refusal_of r) → PathSays path g (Err r)
   unfolding or_path
   refused r h = record { says = h; fits = λ n e. absurd (refused_not r n e) }
 
-  pub not_triples : (length path % 3 ≡ 0 → ⊥) → PathSays path g (Refused (Uneven (length path)))
-  unfolding path_rows triples_row first_row refusal_of
+  pub not_triples : (length path % 3 ≡ 0 → ⊥) → PathSays path g (Err (Uneven (length path)))
+  unfolding path_rows triples_row first_row
   not_triples h = refused (Uneven (length path)) (λ more. rw (ne_eqb (length path % 3) 0 h, first_row))
 
   module _ (h₁ : length path % 3 ≡ 0) where
-    pub grade_low : g < 2 → PathSays path g (Refused (Grade g))
-    unfolding path_rows triples_row draw_grade_row first_row refusal_of
+    pub grade_low : g < 2 → PathSays path g (Err (Grade g))
+    unfolding path_rows triples_row draw_grade_row first_row
     grade_low h = refused (Grade g) (λ more. rw (eq-eqb (length path % 3) 0 h₁, first_row, lt-ltb g 2 h, first_row))
 
     module _ (low : 2 ≤ g) where
-      pub grade_high : 8 < g → PathSays path g (Refused (Grade g))
-      unfolding path_rows triples_row draw_grade_row first_row refusal_of
+      pub grade_high : 8 < g → PathSays path g (Err (Grade g))
+      unfolding path_rows triples_row draw_grade_row first_row
       grade_high h = refused (Grade g) (λ more. rw (eq-eqb (length path % 3) 0 h₁, first_row, le-ltb g 2 low, lt-ltb 8 g h, first_row))
 
       module _ (high : g ≤ 8) where
-        pub too_many : 4096 < length path / 3 → PathSays path g (Refused (TooMany (length path / 3)))
-        unfolding path_rows triples_row draw_grade_row count_row first_row refusal_of
+        pub too_many : 4096 < length path / 3 → PathSays path g (Err (TooMany (length path / 3)))
+        unfolding path_rows triples_row draw_grade_row count_row first_row
         too_many h = refused (TooMany (length path / 3))
             (λ more. rw (eq-eqb (length path % 3) 0 h₁, first_row, le-ltb g 2 low, le-ltb 8 g high, first_row, path_count path, lt-ltb 4096 (length path / 3) h, first_row) (ap (λ (n : ℕ). (2, n)) (path_count path)))
 
@@ -63,14 +62,14 @@ module _ (path : List ℤ) (g : ℕ) where
           count : length (path_of path) ≤ 4096
           count = omega (arith, path_count path)
 
-          pub outside : {i : ℕ} → i ≡ first_outside (path_of path) → i < length path / 3 → PathSays path g (Refused (Outside i))
-          unfolding path_rows triples_row draw_grade_row count_row outside_row first_row refusal_of
+          pub outside : {i : ℕ} → i ≡ first_outside (path_of path) → i < length path / 3 → PathSays path g (Err (Outside i))
+          unfolding path_rows triples_row draw_grade_row count_row outside_row first_row
           outside {i} e h =
               let k : first_outside (path_of path) < length (path_of path) = omega (arith, path_count path) in
               refused (Outside i)
               (λ more. rw (e, eq-eqb (length path % 3) 0 h₁, first_row, le-ltb g 2 low, le-ltb 8 g high, first_row, le-ltb 4096 (length (path_of path)) count, first_row, lt-ltb (first_outside (path_of path)) (length (path_of path)) k, first_row))
 
-          pub passes : {i : ℕ} → i ≡ first_outside (path_of path) → length path / 3 ≤ i → PathSays path g (Passed (length path / 3))
+          pub passes : {i : ℕ} → i ≡ first_outside (path_of path) → length path / 3 ≤ i → PathSays path g (Ok (length path / 3))
           unfolding path_rows triples_row draw_grade_row count_row outside_row first_row or_path
           passes {i} e h =
               let k : length (path_of path) ≤ first_outside (path_of path) = omega (arith, path_count path) in
@@ -113,7 +112,7 @@ module _ (path : List ℤ) (g : ℕ) {w : ℕ} {t : Vector} {l l₁ : List ℤ} 
   count_of = omega (arith, numbers_walked)
 
 -- whatever further rows say, a refusal of the path's rows is the reply
-pub path_refuses : (path : List ℤ) {g : ℕ} {c : PathCheck} {r : Refusal} (more : List Row) (last : Reply) → PathSays path g c → c ≡ Refused r → refusal_of r ≡ first_row (path_rows path g ++ more) last
+pub path_refuses : (path : List ℤ) {g : ℕ} {c : Result ℕ Refusal} {r : Refusal} (more : List Row) (last : Reply) → PathSays path g c → c ≡ Err r → refusal_of r ≡ first_row (path_rows path g ++ more) last
 unfolding or_path
 path_refuses path {g} {c} more last s e =
-    sym (rows_append (path_rows path g) more last ∙ s.says (first_row more last) ∙ ap (λ (x : PathCheck). or_path x (first_row more last)) e)
+    sym (rows_append (path_rows path g) more last ∙ s.says (first_row more last) ∙ ap (λ (x : Result ℕ Refusal). or_path x (first_row more last)) e)

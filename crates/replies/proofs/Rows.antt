@@ -2,14 +2,13 @@
 use mathlib.Core.Path.{◌≡◌, refl, sym, ap, ◌∙◌}
 use mathlib.Core.Bool.{Bool, true, false, true≢false, ◌&&◌, ◌||◌}
 use mathlib.Core.List.{List, [], ◌∷◌, ◌++◌}
-use Prim.Native.Nat.{ℕ, zero, suc, ◌+◌, ◌≤◌, ◌<◌}
+use Prim.Native.Nat.{ℕ, zero, suc, ◌≤◌, ◌<◌}
 use native.Mathlib.Omega.{arith}
 use lib.ListN.{length, drop}
 use borrow.Author.Tests.{le-ltb, lt-ltb, ltb-false, eq-eqb, ne_eqb}
-use Rattle.replies.specs.declared.Code.{Code}
 use Rattle.replies.specs.Replies.{Row, Reply, first_row, draw_grade_row, empty_row, room_row, written}
 use lib.Dec.{eqb, ltb}
-use Rattle.replies.specs.Refusals.{refusal_of, Codes}
+use Rattle.replies.specs.Refusals.{refusal_of}
 use Rattle.replies.specs.declared.Refusal.{Refusal}
 use Rattle.replies.specs.declared.Refusal.TheVariants.{Uneven, TooMany, Grade, Outside, NoRoom, NotOutline, Kind, NotSound, NoVertex, NoEdge, StyleWord, OtherKind, NotTaken, Damaged, KeyThere, KeyMissing, TableFull, WithoutEdges, NoListRoom}
 
@@ -90,7 +89,6 @@ room_enough needed room number last h = rw (le-ltb room needed h, first_row)
 
 -- a refusal's number is not 0, so lent memory stays; after 0 the result stands first
 pub refusal_some : (r : Refusal) → eqb (refusal_of r).0 0 ≡ false
-unfolding refusal_of
 refusal_some (Uneven n) = refl
 refusal_some (TooMany n) = refl
 refusal_some (Grade g) = refl
@@ -149,7 +147,3 @@ either false b e = (refl, e)
 pub grade_from : (g : ℕ) → (draw_grade_row g).0 ≡ false → (2 ≤ g) × (g ≤ 8)
 unfolding draw_grade_row
 grade_from g h = let e = either (ltb g 2) (ltb 8 g) h in (ltb-false g 2 e.0, ltb-false 8 g e.1)
-
--- a reply and number from what the code has put into them
-pub coded_told : {c : Code} {a n : ℕ} {t : Reply} → (a, n) ≡ t → (c.reply ≡ a) × (c.number ≡ n) → Codes c t
-coded_told e h = record { reply = h.0 ∙ ap (λ (x : Reply). x.0) e; number = h.1 ∙ ap (λ (x : Reply). x.1) e }

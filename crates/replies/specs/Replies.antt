@@ -1,5 +1,5 @@
 -- Document 01, "Replies, tested in this order": rows, and lent memory afterwards.
-use Rattle.std.specs.Prelude.{Bool, true, false, not, ◌&&◌, ◌||◌, List, [], ◌∷◌, ◌++◌, ℕ, ◌+◌, ◌%◌, eqb, ltb, leb, ℤ, length, drop}
+use Rattle.std.specs.Prelude.{Bool, true, false, not, ◌&&◌, ◌||◌, List, [], ◌∷◌, ◌++◌, ℕ, ◌%◌, eqb, ltb, leb, ℤ, length, drop}
 use Rattle.contacts.specs.Limits.{allowed_of, first_outside}
 use Rattle.paths.specs.Paths.{path_of}
 use Rattle.contacts.specs.declared.Vertex.{Vertex}

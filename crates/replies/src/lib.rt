@@ -6,7 +6,7 @@ pub mod refusals;
 pub mod style_rows;
 
 // Why a call is refused, each with the number that goes beside its reply. They are appended, never renumbered.
-#[derive(Clone, Copy)]
+#[derive(Clone, Copy, Debug, PartialEq, Eq)]
 pub enum Refusal {
     Uneven(usize),
     TooMany(usize),

@@ -6,36 +6,29 @@ ghost use Rattle.replies.specs.Checks.{PathSays};
 use crate::Refusal;
 use paths::paths::first_outside;
 
-// What the rows of a path came to: how many vertices it has, or why it is refused.
-#[derive(Clone, Copy)]
-pub enum PathCheck {
-    Passed(usize),
-    Refused(Refusal),
-}
-
-// Every row of a path, in order.
-pub fn check_path(path: &[i32], grade: u32) -> PathCheck
+// Every row of a path, in order: how many vertices it has, or why it is refused.
+pub fn check_path(path: &[i32], grade: u32) -> Result<usize, Refusal>
     ensures { PathSays path.now grade result }
 {
     let m = path.len();
     if m % 3 != 0 {
-        return PathCheck::Refused(Refusal::Uneven(m));
+        return Err(Refusal::Uneven(m));
     }
     if grade < 2 {
-        return PathCheck::Refused(Refusal::Grade(grade));
+        return Err(Refusal::Grade(grade));
     }
     if 8 < grade {
-        return PathCheck::Refused(Refusal::Grade(grade));
+        return Err(Refusal::Grade(grade));
     }
     let n = m / 3;
     if 4096 < n {
-        return PathCheck::Refused(Refusal::TooMany(n));
+        return Err(Refusal::TooMany(n));
     }
     let bad = first_outside(path, n);
     if bad < n {
-        return PathCheck::Refused(Refusal::Outside(bad));
+        return Err(Refusal::Outside(bad));
     }
-    PathCheck::Passed(n)
+    Ok(n)
 }
 
 // Whether a path of n vertices and m edges is one of vertices without edges: document 02, request 9.

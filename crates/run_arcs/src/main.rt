@@ -3,11 +3,10 @@
 
 mod answer;
 mod case;
-mod guard;
 mod numbers;
 mod print;
 
-use lines::{line, page};
+use lines::page;
 use std::io;
 use std::io::{BufWriter, Read, Write};
 
@@ -18,30 +17,19 @@ const TEXT: u64 = 65536;
 const ROOM: usize = 4096;
 
 // The answer to each line of the text.
-fn answers<W: Write>(
-    text: &[u8],
-    page: &mut W,
-    minus: &mut [bool; 16],
-    sizes: &mut [u64; 16],
-    out: &mut [i32],
-) -> io::Result<()> {
-    let mut at: usize = 0;
-    while at < text.len() {
-        let end = line::end(text, at);
-        case::print_line(page, &text[at..end], minus, sizes, out)?;
-        at = end + 1;
+fn answers<W: Write>(text: &[u8], page: &mut W, out: &mut [i32]) -> io::Result<()> {
+    for line in text.split_inclusive(|byte| *byte == b'\n') {
+        case::print_line(page, line.strip_suffix(b"\n").unwrap_or(line), out)?;
     }
     Ok(())
 }
 
-// Owns the text, the page, the numbers of a line and the room for edges, and lends them.
+// Owns the text, the page and the room for edges, and lends them.
 fn main(rt: HostRuntime) -> io::Result<()> {
     let mut text = Vec::new(rt.alloc());
     let mut page = BufWriter::new(rt.alloc(), io::writer(&rt))?;
-    let mut minus = [false; 16];
-    let mut sizes = [0u64; 16];
     let mut out = vec![in rt.alloc(); 0i32; ROOM]?;
     rt.reader().take(TEXT).read_to_end(&mut text)?;
-    answers(&text, &mut page, &mut minus, &mut sizes, &mut out)?;
+    answers(&text, &mut page, &mut out)?;
     page::finish(&mut page)
 }

@@ -1,60 +1,93 @@
-// The numbers of a case as points, vertices, a grade and a choice.
-ghost use Rattle.std.specs.Prelude.{◌+◌, ◌<◌, ◌≤◌};
+// The numbers of a case as points, vertices, sections, steps and choices, if they are what the functions ask for.
+ghost use Rattle.std.specs.Prelude.{◌≡◌, true, IfSome};
+ghost use Rattle.plane.specs.Vectors.{Near};
+ghost use Rattle.plane.specs.Directions.{UnitLong};
+ghost use Rattle.turning.specs.Bounds.{About};
+ghost use Rattle.contacts.specs.Bounds.{Inside, Around};
 
-use contacts::Vertex;
-use number::sign::signed;
+use contacts::limits::allowed;
+use contacts::math::kind;
+use contacts::sections::section;
+use contacts::{Kind, Section, Vertex};
+use folds::Pen;
+use lines::token::Number;
 use plane::Point;
+use plane::direction::step;
+use plane::vectors::{from_to, square};
 use turning::Sweep;
 
-// The number at a place, or 2^30, which is outside every limit, if it is farther from 0.
-fn number_at(minus: &[bool; 16], sizes: &[u64; 16], i: usize) -> i64
-    requires { i < 16 }
+// The pen of a grade, which folds nothing, if there is such a grade.
+pub fn pen_of(grade: Number) -> Option<Pen>
+    ensures { IfSome result (λ pen. UnitLong pen.step) }
 {
-    let size = sizes[i];
-    if 0x4000_0000 < size {
-        return 0x4000_0000;
+    let grade = grade.natural()?;
+    if grade < 1 || 8 < grade {
+        return None;
     }
-    signed(minus[i], size)
+    let step = step(grade as u32);
+    Some(Pen { step, folds: false })
 }
 
-// The point from a place on.
-pub fn point_at(minus: &[bool; 16], sizes: &[u64; 16], i: usize) -> Point
-    requires { i + 1 < 16 }
+// The vertex of three numbers, if it is within the limits.
+pub fn vertex(numbers: &[Number]) -> Option<Vertex>
+    ensures { IfSome result Inside }
 {
-    Point {
-        x: number_at(minus, sizes, i),
-        y: number_at(minus, sizes, i + 1),
+    let [x, y, radius] = numbers else {
+        return None;
+    };
+    let v = Vertex {
+        x: i64::try_from(*x).ok()?,
+        y: i64::try_from(*y).ok()?,
+        radius: i64::try_from(*radius).ok()?,
+    };
+    if allowed(v) { Some(v) } else { None }
+}
+
+// The section from one vertex to another, unless the step is broken.
+pub fn whole(a: Vertex, b: Vertex) -> Option<Section>
+    requires { Inside a × Inside b }
+    ensures { IfSome result Around }
+{
+    match kind(a, b) {
+        Kind::Broken => None,
+        Kind::Drawn => Some(section(a, b)),
+        Kind::Thin => Some(section(a, b)),
     }
 }
 
-// The vertex from a place on.
-pub fn vertex_at(minus: &[bool; 16], sizes: &[u64; 16], i: usize) -> Vertex
-    requires { i + 2 < 16 }
+// Whether a point is as near to the origin as an edge can end.
+fn near(p: Point) -> bool
+    ensures { result ≡ true → Near p }
 {
-    Vertex {
-        x: number_at(minus, sizes, i),
-        y: number_at(minus, sizes, i + 1),
-        radius: number_at(minus, sizes, i + 2),
-    }
+    p.x.unsigned_abs() <= 0x2000_0000 && p.y.unsigned_abs() <= 0x2000_0000
 }
 
-// The grade, which stands first, or 0 if there is no such grade.
-pub fn grade_of(minus: &[bool; 16], sizes: &[u64; 16]) -> u32
-    ensures { result ≤ 8 }
+// Whether a point is no farther from a centre than a radius within the limits, rounded.
+fn about(c: Point, p: Point) -> bool
+    requires { Near c }
+    ensures { result ≡ true → About c p }
 {
-    let size = sizes[1];
-    if minus[1] {
-        return 0;
-    }
-    if 8 < size {
-        return 0;
-    }
-    size as u32
+    near(p) && square(from_to(c, p)) < 0x100_0000_2000_0001
 }
 
-// How an arc between aligned rays turns: the last number says.
-pub fn choice_of(sizes: &[u64; 16]) -> Sweep {
-    if sizes[9] == 0 {
+// The point of two numbers, if it is about a centre.
+pub fn point(c: Point, numbers: &[Number]) -> Option<Point>
+    requires { Near c }
+    ensures { IfSome result (About c) }
+{
+    let [x, y] = numbers else {
+        return None;
+    };
+    let p = Point {
+        x: i64::try_from(*x).ok()?,
+        y: i64::try_from(*y).ok()?,
+    };
+    if about(c, p) { Some(p) } else { None }
+}
+
+// How an arc between aligned rays turns.
+pub fn choice_of(number: Number) -> Sweep {
+    if number.size == 0 {
         Sweep::Minor
     } else {
         Sweep::Major

@@ -1,65 +1,59 @@
-// The answer to each kind of case, or that its numbers lie outside what the function takes.
-ghost use Rattle.std.specs.Prelude.{◌≡◌, ◌^◌, ◌≤◌, ◌+◌, ◌*◌, nat_abs};
+// The answer to each kind of case, if its numbers lie within what the function takes.
+ghost use Rattle.std.specs.Prelude.{◌≡◌, ◌^◌, ◌≤◌, nat_abs, IfSome};
+ghost use Rattle.plane.specs.Directions.{UnitLong};
 
 use lines::token::Number;
 use number::sign::signed;
 use plane::Vector;
+use std::fmt;
 
-// What a case comes to: a number, two, the two limbs of one, or nothing.
-#[derive(Clone, Copy)]
+// What a case comes to: a number, two, or the two limbs of one.
+#[derive(Clone, Copy, Debug, PartialEq, Eq)]
 pub enum Answer {
     One(i64),
     Two(i64, i64),
     Limbs(u64, u64),
-    Outside,
+}
+
+impl fmt::Display for Answer {
+    fn fmt<W: fmt::Write>(&self, f: &mut fmt::Formatter<W>) -> fmt::Result {
+        match self {
+            Answer::One(x) => write!(f, "{x}"),
+            Answer::Two(x, y) => write!(f, "{x} {y}"),
+            Answer::Limbs(high, low) => write!(f, "{high} {low}"),
+        }
+    }
 }
 
 // The integer root.
-pub fn root(n: Number) -> Answer {
-    if n.minus {
-        return Answer::Outside;
-    }
-    Answer::One(number::root::root(n.size, number::guess::near_root(n.size)) as i64)
+pub fn root(n: Number) -> Option<Answer> {
+    let n = n.natural()?;
+    let root = number::root::root(n, number::guess::near_root(n));
+    Some(Answer::One(root as i64))
 }
 
 // The two limbs of a product.
-pub fn product(a: Number, b: Number) -> Answer {
-    if a.minus {
-        return Answer::Outside;
-    }
-    if b.minus {
-        return Answer::Outside;
-    }
-    let limbs = number::wide::product(a.size, b.size);
-    Answer::Limbs(limbs.hi, limbs.lo)
+pub fn product(a: Number, b: Number) -> Option<Answer> {
+    let product = number::wide::product(a.natural()?, b.natural()?);
+    let limb = 0x1_0000_0000_0000_0000;
+    Some(Answer::Limbs((product / limb) as u64, (product % limb) as u64))
 }
 
-// A product over a divisor, and 1 if the division left nothing over, else 0.
-pub fn quotient(a: Number, b: Number, d: Number) -> Answer {
-    if d.minus {
-        return Answer::Outside;
+// A product over a divisor, and whether the division left nothing over, as 1 or 0.
+pub fn quotient(a: Number, b: Number, d: Number) -> Option<Answer> {
+    let divisor = d.natural()?;
+    if divisor == 0 || 0x4000_0000_0000_0000 <= divisor {
+        return None;
     }
-    if d.size == 0 {
-        return Answer::Outside;
+    if 0x1000_0000 < a.size || 4 * divisor < b.size || 0x8000_0000_0000_0000 <= b.size {
+        return None;
     }
-    if 0x4000_0000_0000_0000 <= d.size {
-        return Answer::Outside;
-    }
-    if 0x1000_0000 < a.size {
-        return Answer::Outside;
-    }
-    if 4 * d.size < b.size {
-        return Answer::Outside;
-    }
-    if 0x8000_0000_0000_0000 <= b.size {
-        return Answer::Outside;
-    }
-    let first = signed(a.minus, a.size);
-    let second = signed(b.minus, b.size);
-    let divisor = signed(false, d.size);
-    let quotient = number::division::mul_div(first, second, divisor);
-    let exact = quotient.exact as i64;
-    Answer::Two(quotient.value, exact)
+    let quotient = number::division::mul_div(
+        signed(a.minus, a.size),
+        signed(b.minus, b.size),
+        signed(false, divisor),
+    );
+    Some(Answer::Two(quotient.value, i64::from(quotient.exact)))
 }
 
 // The vector of these coordinates.
@@ -74,89 +68,59 @@ fn vector(x: Number, y: Number) -> Vector
 }
 
 // The direction of a vector.
-pub fn direction(x: Number, y: Number) -> Answer {
-    if 0x4000_0000 < x.size {
-        return Answer::Outside;
-    }
-    if 0x4000_0000 < y.size {
-        return Answer::Outside;
-    }
-    if x.size + y.size == 0 {
-        return Answer::Outside;
+pub fn direction(x: Number, y: Number) -> Option<Answer> {
+    if 0x4000_0000 < x.size || 0x4000_0000 < y.size || x.size + y.size == 0 {
+        return None;
     }
     let v = vector(x, y);
     let way = plane::direction::direction(v, plane::direction::measured(v));
-    Answer::Two(way.x, way.y)
+    Some(Answer::Two(way.x, way.y))
 }
 
 // The step of a grade.
-pub fn step(grade: Number) -> Answer {
-    if grade.minus {
-        return Answer::Outside;
+pub fn step(grade: Number) -> Option<Answer> {
+    let grade = grade.natural()?;
+    if grade < 1 || 8 < grade {
+        return None;
     }
-    if grade.size < 1 {
-        return Answer::Outside;
-    }
-    if 8 < grade.size {
-        return Answer::Outside;
-    }
-    let way = plane::direction::step(grade.size as u32);
-    Answer::Two(way.x, way.y)
+    let way = plane::direction::step(grade as u32);
+    Some(Answer::Two(way.x, way.y))
 }
 
-// The squared length of a vector, or a larger number than 2^60 if a coordinate is above 2^30.
-fn square(x: Number, y: Number) -> u64
-    ensures { result ≤ 2 ^ 60 → (x.size ≤ 2 ^ 30) × (y.size ≤ 2 ^ 30) × (x.size * x.size + y.size * y.size ≤ 2 ^ 60) }
+// The vector of these coordinates, if it is no longer than 2^30.
+fn unit(x: Number, y: Number) -> Option<Vector>
+    ensures { IfSome result UnitLong }
 {
-    let m = x.size;
-    let n = y.size;
-    if 0x4000_0000 < m {
-        return 0x8000_0000_0000_0000;
+    if 0x4000_0000 < x.size || 0x4000_0000 < y.size {
+        return None;
     }
-    if 0x4000_0000 < n {
-        return 0x8000_0000_0000_0000;
+    if 0x1000_0000_0000_0000 < x.size * x.size + y.size * y.size {
+        return None;
     }
-    m * m + n * n
+    Some(vector(x, y))
 }
 
 // A direction turned by a step.
-pub fn rotation(c: Number, s: Number, x: Number, y: Number) -> Answer {
-    if 0x1000_0000_0000_0000 < square(c, s) {
-        return Answer::Outside;
-    }
-    if 0x1000_0000_0000_0000 < square(x, y) {
-        return Answer::Outside;
-    }
-    let way = plane::rotation::rotated(vector(c, s), vector(x, y));
-    Answer::Two(way.x, way.y)
+pub fn rotation(c: Number, s: Number, x: Number, y: Number) -> Option<Answer> {
+    let way = plane::rotation::rotated(unit(c, s)?, unit(x, y)?);
+    Some(Answer::Two(way.x, way.y))
 }
 
 // A direction's component scaled by a radius.
-pub fn scaling(d: Number, radius: Number) -> Answer {
-    if radius.minus {
-        return Answer::Outside;
-    }
-    if 0x4000_0000 < d.size {
-        return Answer::Outside;
-    }
-    if 0x1000_0000 < radius.size {
-        return Answer::Outside;
+pub fn scaling(d: Number, radius: Number) -> Option<Answer> {
+    let radius = radius.natural()?;
+    if 0x4000_0000 < d.size || 0x1000_0000 < radius {
+        return None;
     }
     let component = signed(d.minus, d.size);
-    Answer::One(plane::rotation::scaled(component, radius.size))
+    Some(Answer::One(plane::rotation::scaled(component, radius)))
 }
 
 // The shift that a squared length asks for.
-pub fn shift(square: Number) -> Answer {
-    if square.minus {
-        return Answer::Outside;
+pub fn shift(square: Number) -> Option<Answer> {
+    let square = square.natural()?;
+    if square == 0 || 0x800_0000_0000_0000 < square {
+        return None;
     }
-    let sq = square.size;
-    if sq == 0 {
-        return Answer::Outside;
-    }
-    if 0x800_0000_0000_0000 < sq {
-        return Answer::Outside;
-    }
-    Answer::One(contacts::math::shift(sq) as i64)
+    Some(Answer::One(contacts::math::shift(square) as i64))
 }

@@ -1,7 +1,7 @@
 -- After the reply 0 every row failed, so header and vertices can be read, and what is due is sound. Assumes nothing.
 use mathlib.Core.Path.{◌≡◌, refl, sym, ap, ◌∙◌}
-use mathlib.Core.Bool.{true, ◌||◌}
-use mathlib.Core.List.{List, [], ◌∷◌, ◌++◌}
+use mathlib.Core.Bool.{◌||◌}
+use mathlib.Core.List.{List, ◌++◌}
 use Prim.Native.Nat.{ℕ, zero, suc, ◌≤◌}
 use native.Mathlib.Nat.{le_antisymm}
 use native.Mathlib.Omega.{arith}
@@ -9,10 +9,9 @@ use borrow.Author.Tests.{ltb-false, eqb-false}
 use lib.Dec.{ltb}
 use lib.ListN.{length, take, drop}
 use lib.Seq.{take-append_seam}
-use Rattle.contacts.specs.Limits.{first_outside}
 use Rattle.contacts.proofs.Allowed.{outside_most}
 use Rattle.outline.specs.Outlines.{outline_bytes}
-use Rattle.outline.specs.Stores.{edition_in, kind_in, edition_of, form_in, grade_in, count_in, length_in, path_in, posts_in, due_in, sound_of}
+use Rattle.outline.specs.Stores.{edition_in, kind_in, edition_of, grade_in, count_in, length_in, path_in, posts_in, due_in, sound_of}
 use Rattle.outline.specs.Theorems.{Bytes}
 use Rattle.outline.specs.declared.Form.{Form}
 use Rattle.outline.specs.declared.Form.TheVariants.{Stroke}

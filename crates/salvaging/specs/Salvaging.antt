@@ -1,15 +1,15 @@
 -- Document 02, request 14: salvage, its rows, its answer and its promise.
-use Rattle.std.specs.Prelude.{◌≡◌, true, false, List, [], ◌∷◌, ◌++◌, ℕ, ◌/◌, eqb, ltb, length}
+use Rattle.std.specs.Prelude.{◌≡◌, true, false, List, [], ◌∷◌, ◌++◌, ℕ, ◌/◌, eqb, ltb, length, Result, Ok, Err}
 use Rattle.outline.specs.Layout.{front_bytes}
 use Rattle.outline.specs.Stores.{edition_in, edition_of, grade_in, count_in, path_in, due_in}
 use Rattle.outline.specs.declared.Form.TheVariants.{Stroke}
 use Rattle.replies.specs.Replies.{Reply, Row, first_row, grade_row, count_row, outside_row, room_row, written}
 use Rattle.replies.specs.Refusals.{refusal_of}
+use Rattle.replies.specs.declared.Refusal.{Refusal}
 use Rattle.heading.specs.StoreRows.{edition_row, kind_row}
 use Rattle.checking.specs.OtherKind.{other_kind_row}
 use Rattle.differences.specs.Differences.{notes_in}
 use Rattle.salvaging.specs.declared.Salvaged.{Salvaged}
-use Rattle.salvaging.specs.declared.Salvaged.TheVariants as salvaged
 
 -- ---- rows: as reading up to 4, without 8 and without the length test on bodies
 
@@ -44,25 +44,25 @@ salvage_list s room list = written (salvage_reply s room (length list)) (notes_i
 unfoldable pub noted_with : Reply → List ℕ → ℕ
 noted_with told notes = elim (eqb told.0 0) [ true ↦ length notes / 2 | false ↦ 0 ]
 
-unfoldable pub reply_of_salvaged : Salvaged → Reply
-reply_of_salvaged (salvaged.Outline bytes notes) = (0, bytes)
-reply_of_salvaged (salvaged.Refused r) = refusal_of r
+unfoldable pub reply_of_salvaged : Result Salvaged Refusal → Reply
+reply_of_salvaged (Ok made) = (0, made.bytes)
+reply_of_salvaged (Err r) = refusal_of r
 
-unfoldable pub notes_of_salvaged : Salvaged → ℕ
-notes_of_salvaged (salvaged.Outline bytes notes) = notes
-notes_of_salvaged (salvaged.Refused r) = 0
+unfoldable pub notes_of_salvaged : Result Salvaged Refusal → ℕ
+notes_of_salvaged (Ok made) = made.notes
+notes_of_salvaged (Err r) = 0
 
-pub record Salvages (store out₀ list₀ : List ℕ) (answer : Salvaged) (out₁ list₁ : List ℕ) : Type 0 where
+pub record Salvages (store out₀ list₀ : List ℕ) (answer : Result Salvaged Refusal) (out₁ list₁ : List ℕ) : Type 0 where
   pub reply : reply_of_salvaged answer ≡ salvage_reply store (length out₀) (length list₀)
   pub notes : notes_of_salvaged answer ≡ noted_with (salvage_reply store (length out₀) (length list₀)) (notes_in store)
   pub out : out₁ ≡ salvage_out store out₀ (length list₀)
   pub list : list₁ ≡ salvage_list store (length out₀) list₀
 
 abbrev pub OneSalvaging : Type 0
-OneSalvaging = (s out list : List ℕ) (r q : Salvaged) (o p m n : List ℕ) → Salvages s out list r o m → Salvages s out list q p n → (r ≡ q) × (o ≡ p) × (m ≡ n)
+OneSalvaging = (s out list : List ℕ) (r q : Result Salvaged Refusal) (o p m n : List ℕ) → Salvages s out list r o m → Salvages s out list q p n → (r ≡ q) × (o ≡ p) × (m ≡ n)
 
 -- the same of any reply, outline and notes: what the functions below the call promise
-pub record Gives (told : Reply) (made notes out₀ list₀ : List ℕ) (answer : Salvaged) (out₁ list₁ : List ℕ) : Type 0 where
+pub record Gives (told : Reply) (made notes out₀ list₀ : List ℕ) (answer : Result Salvaged Refusal) (out₁ list₁ : List ℕ) : Type 0 where
   pub reply : reply_of_salvaged answer ≡ told
   pub noted : notes_of_salvaged answer ≡ noted_with told notes
   pub out : out₁ ≡ written told made out₀

@@ -4,21 +4,22 @@
 ghost use Rattle.std.specs.Prelude.{◌≤◌, length};
 ghost use Rattle.salvaging.specs.Salvaging.{Salvages};
 
-use crate::fronts::{FrontCheck, front_rows};
+use crate::fronts::front_rows;
 use crate::making::salvage_front;
 use replies::Refusal;
 
 pub mod fronts;
 pub mod making;
 
-// What salvage came to: how many bytes the outline has and how many notes there are, or why not.
-#[derive(Clone, Copy)]
-pub enum Salvaged {
-    Outline(usize, usize),
-    Refused(Refusal),
+// What salvage made: how many bytes the outline has, and how many notes there are.
+#[derive(Clone, Copy, PartialEq, Eq, Debug)]
+pub struct Salvaged {
+    pub bytes: usize,
+    pub notes: usize,
 }
 
-// salvage with numbers of the caller's: for the store's path, for its posts, for a step's edges and for what differs.
+// salvage with numbers of the caller's: for the store's path, for its posts, for a step's edges and for what differs. Each may be longer than is
+// asked, and lies where the caller has it: one struct of four arrays would ask for just so many, side by side.
 pub fn salvage_with(
     store: &[u8],
     out: &mut [u8],
@@ -27,19 +28,16 @@ pub fn salvage_with(
     posts: &mut [u32],
     own: &mut [i32],
     differing: &mut [u32],
-) -> Salvaged
+) -> Result<Salvaged, Refusal>
     requires { (12288 ≤ length path.old) × (4096 ≤ length posts.old) × (36908 ≤ length own.old) × (4098 ≤ length differing.old) }
     ensures { Salvages store.now out.old list.old result out.new list.new }
 {
-    let checked = front_rows(store);
-    match checked {
-        FrontCheck::Refused(r) => Salvaged::Refused(r),
-        FrontCheck::Holds(f) => salvage_front(store, f, out, list, path, posts, own, differing),
-    }
+    let front = front_rows(store)?;
+    salvage_front(&front, out, list, path, posts, own, differing)
 }
 
 // Salvages a stroke's store: a sound outline into lent bytes, and notes of what differed into lent numbers, two a note.
-pub fn salvage(store: &[u8], out: &mut [u8], list: &mut [u32]) -> Salvaged
+pub fn salvage(store: &[u8], out: &mut [u8], list: &mut [u32]) -> Result<Salvaged, Refusal>
     ensures { Salvages store.now out.old list.old result out.new list.new }
 {
     let mut path = [0i32; 12288];

@@ -1,4 +1,5 @@
 -- A reason from what the code has put into it, and that a promise allows one. Assumes nothing.
+use Rattle.std.specs.Prelude.{Result, Ok, Err}
 use mathlib.Core.Path.{◌≡◌, sym, ap, ◌∙◌}
 use mathlib.Core.Bool.{Bool, true, false}
 use Prim.Native.Nat.{ℕ, ◌<◌}
@@ -15,7 +16,6 @@ use Rattle.reasons.specs.declared.Reason.{Reason}
 use Rattle.reasons.specs.declared.Reason.TheVariants.{LeftSide, RightSide, StartCap, EndCap, LeftJoin, RightJoin, Gap, Circle}
 use Rattle.explaining.specs.Explaining.{reply_of_explained, why_of_explained}
 use Rattle.explaining.specs.declared.Explained.{Explained}
-use Rattle.explaining.specs.declared.Explained.TheVariants as explained
 use Rattle.sehmelir.specs.ReasonBoundary.{ReasonReplies, OneExplainReply, OneListReply}
 use Rattle.sehmelir.specs.declared.reason_calls.ReasonReply.{ReasonReply}
 use Rattle.sehmelir.proofs.OneReply.{one_reply}
@@ -55,11 +55,11 @@ reason_code r e er es en ev ep exs exe = record { reply = er ∙ e.reply; reason
 pub reason_as : {p : ReasonReply} {s t : Answer} {v w : Why} → s ≡ t → v ≡ w → ReasonReplies p s v → ReasonReplies p t w
 reason_as e f h = rw (e, f) at h
 
-pub reason_edge : {p : ReasonReply} {a : Explained} {k : ℕ} {w : Why} → a ≡ explained.Edge k w → ReasonReplies p (0, k) w → ReasonReplies p (reply_of_explained a) (why_of_explained a)
+pub reason_edge : {p : ReasonReply} {a : Result Explained Refusal} {e : Explained} → a ≡ Ok e → ReasonReplies p (0, e.edge) e.why → ReasonReplies p (reply_of_explained a) (why_of_explained a)
 unfolding reply_of_explained why_of_explained
 reason_edge e h = rw e h
 
-pub reason_refused : {p : ReasonReply} {a : Explained} {r : Refusal} → a ≡ explained.Refused r → ReasonReplies p (refusal_of r) unnamed → ReasonReplies p (reply_of_explained a) (why_of_explained a)
+pub reason_refused : {p : ReasonReply} {a : Result Explained Refusal} {r : Refusal} → a ≡ Err r → ReasonReplies p (refusal_of r) unnamed → ReasonReplies p (reply_of_explained a) (why_of_explained a)
 unfolding reply_of_explained why_of_explained
 reason_refused e h = rw e h
 

@@ -1,4 +1,5 @@
 -- A salvage's reply from what the code has put into it, and that a promise allows one. Assumes nothing.
+use Rattle.std.specs.Prelude.{Result, Ok, Err}
 use mathlib.Core.Path.{◌≡◌, sym, ◌∙◌}
 use Prim.Native.Nat.{ℕ}
 use Rattle.replies.specs.Replies.{Reply as Answer}
@@ -7,7 +8,6 @@ use Rattle.replies.specs.declared.Code.{Code}
 use Rattle.replies.specs.declared.Refusal.{Refusal}
 use Rattle.salvaging.specs.Salvaging.{reply_of_salvaged, notes_of_salvaged}
 use Rattle.salvaging.specs.declared.Salvaged.{Salvaged}
-use Rattle.salvaging.specs.declared.Salvaged.TheVariants as salvaged
 use Rattle.sehmelir.specs.SalvageBoundary.{SalvagedReplies, OneSalvageReply}
 use Rattle.sehmelir.specs.declared.salvage_calls.SalvageReply.{SalvageReply}
 
@@ -17,11 +17,11 @@ salvaged_as e f h = rw (e, f) at h
 pub salvaged_code : {p : SalvageReply} {c : Code} (r : Refusal) → Codes c (refusal_of r) → (p.reply ≡ c.reply) × (p.zero ≡ 0) × (p.number ≡ c.number) × (p.entries ≡ 0) → SalvagedReplies p (refusal_of r) 0
 salvaged_code r e h = record { reply = h.0 ∙ e.reply; zero = h.1; number = h.2 ∙ e.number; entries = h.3 }
 
-pub salvaged_outline : {p : SalvageReply} {a : Salvaged} {n k : ℕ} → a ≡ salvaged.Outline n k → (p.reply ≡ 0) × (p.zero ≡ 0) × (p.number ≡ n) × (p.entries ≡ k) → SalvagedReplies p (reply_of_salvaged a) (notes_of_salvaged a)
+pub salvaged_outline : {p : SalvageReply} {a : Result Salvaged Refusal} {made : Salvaged} → a ≡ Ok made → (p.reply ≡ 0) × (p.zero ≡ 0) × (p.number ≡ made.bytes) × (p.entries ≡ made.notes) → SalvagedReplies p (reply_of_salvaged a) (notes_of_salvaged a)
 unfolding reply_of_salvaged notes_of_salvaged
 salvaged_outline e h = rw e (record { reply = h.0; zero = h.1; number = h.2; entries = h.3 })
 
-pub salvaged_refused : {p : SalvageReply} {a : Salvaged} {r : Refusal} → a ≡ salvaged.Refused r → SalvagedReplies p (refusal_of r) 0 → SalvagedReplies p (reply_of_salvaged a) (notes_of_salvaged a)
+pub salvaged_refused : {p : SalvageReply} {a : Result Salvaged Refusal} {r : Refusal} → a ≡ Err r → SalvagedReplies p (refusal_of r) 0 → SalvagedReplies p (reply_of_salvaged a) (notes_of_salvaged a)
 unfolding reply_of_salvaged notes_of_salvaged
 salvaged_refused e h = rw e h
 

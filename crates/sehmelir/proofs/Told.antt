@@ -1,4 +1,5 @@
 -- A reply from what the code has put into it. Assumes nothing.
+use Rattle.std.specs.Prelude.{Result, Ok}
 use mathlib.Core.Path.{◌≡◌, ap, ◌∙◌}
 use mathlib.Core.List.{List}
 use mathlib.Core.Option.{none}
@@ -6,13 +7,11 @@ use Prim.Native.Nat.{ℕ}
 use lib.IntN.{ℤ, pos}
 use Rattle.contacts.specs.declared.Vertex.{Vertex}
 use Rattle.replies.specs.Replies.{Reply as Answer}
-use Rattle.replies.specs.Refusals.{Codes}
+use Rattle.replies.specs.Refusals.{Codes, reply_of}
 use Rattle.replies.specs.declared.Code.{Code}
-use Rattle.editing.specs.Replacing.{reply_of_replaced, Replaces}
-use Rattle.editing.specs.declared.Replaced.{Replaced}
-use Rattle.oldest.specs.Taken.{reason_of, whole_in}
-use Rattle.oldest.specs.declared.Taken.{Taken as Answered}
-use Rattle.oldest.specs.declared.Taken.TheVariants.{Whole}
+use Rattle.editing.specs.Replacing.{Replaces}
+use Rattle.replies.specs.declared.Refusal.{Refusal}
+use Rattle.oldest.specs.Taken.{Taken as Answered, reason_of, whole_in}
 use Rattle.turning.specs.Bounds.{Radius}
 use Rattle.plane.proofs.Products.{bits}
 use Rattle.kerb.specs.declared.Style.{Style}
@@ -41,7 +40,7 @@ pub graded_as : {p : Reply} {s t : Answer} {g h : ℕ} → s ≡ t → g ≡ h �
 graded_as e f r = rw (e, f) at r
 
 -- a vertex by its three numbers
-pub replaced_told : {s s₁ : List ℕ} {k : ℕ} {v : Vertex} {a : Replaced} {p : Reply} {x y radius : ℤ} → v.x ≡ x → v.y ≡ y → v.radius ≡ radius → Replaces s k v a s₁ → Replies p (reply_of_replaced a) 0 → ReplaceReplies s k (record { x = x; y = y; radius = radius }) p s₁
+pub replaced_told : {s s₁ : List ℕ} {k : ℕ} {v : Vertex} {a : Result ℕ Refusal} {p : Reply} {x y radius : ℤ} → v.x ≡ x → v.y ≡ y → v.radius ≡ radius → Replaces s k v a s₁ → Replies p (reply_of a) 0 → ReplaceReplies s k (record { x = x; y = y; radius = radius }) p s₁
 replaced_told {s} {s₁} {k} {v} {a} {p} ex ey er h q =
     let r : ReplaceReplies s k v p s₁ = record { replies = told_as h.reply q; store = h.store } in
     rw (ex, ey, er) at r
@@ -70,7 +69,7 @@ path_told r n c er en eg ek ed ej ec =
 
 -- ---- a float: its whole number, or a reason without one
 
-pub tells_whole : {p : Taken} {t : Answered} {n : ℤ} → t ≡ Whole n → p.reason ≡ 0 → p.whole ≡ n → Tells p t
+pub tells_whole : {p : Taken} {t : Answered} {n : ℤ} → t ≡ Ok n → p.reason ≡ 0 → p.whole ≡ n → Tells p t
 unfolding reason_of whole_in whole_or0
 tells_whole e f g = rw e (record { reason = f; whole = g })
 

@@ -16,9 +16,8 @@ use Rattle.reading.specs.Reading.{read_reply, read_grade, read_form, read_out}
 use Rattle.reading.specs.PostsReading.{posts_reply, posts_out}
 use Rattle.editing.specs.Replacing.{replace_reply, replace_out}
 use Rattle.reaching.specs.Replies.{reach_reply}
-use Rattle.oldest.specs.Taken.{whole_in, reason_of}
+use Rattle.oldest.specs.Taken.{Taken as Answered, whole_in, reason_of}
 use Rattle.oldest.specs.Calls.{import_reply, import_out, export_reply, export_out}
-use Rattle.oldest.specs.declared.Taken.{Taken as Answered}
 use Rattle.sehmelir.specs.declared.Reply.{Reply}
 use Rattle.sehmelir.specs.declared.Path.{Path}
 use Rattle.sehmelir.specs.declared.FormNumbers.{FormNumbers}

@@ -1,33 +1,22 @@
 // The calls for C and Rust: numbers and slices only.
 #![tactic(auto)]
 
-ghost use Rattle.std.specs.Prelude.{◌≡◌, pos};
+ghost use Rattle.std.specs.Prelude.{◌≡◌, Err};
 ghost use Rattle.turning.specs.Bounds.{Radius};
 ghost use Rattle.outline.specs.Theorems.{FormWithin};
 ghost use Rattle.outline.specs.declared.Form.TheVariants.{Kerb};
-ghost use Rattle.replies.specs.Refusals.{refusal_of};
-ghost use Rattle.drawing.specs.Drawing.{reply_of_drawn};
-ghost use Rattle.keeping.specs.Keeping.{plain_posts, reply_of_kept};
+ghost use Rattle.replies.specs.Refusals.{refusal_of, reply_of};
+ghost use Rattle.keeping.specs.Keeping.{plain_posts};
 ghost use Rattle.reading.specs.Reading.{reply_of_read, grade_of_read, form_of_read};
-ghost use Rattle.reading.specs.PostsReading.{reply_of_posts};
-ghost use Rattle.editing.specs.Replacing.{reply_of_replaced};
 ghost use Rattle.sehmelir.specs.Boundary.{Replies, FormTold, PathReplies, DrawReplies, DrawKerbReplies, KeepReplies, KeepKerbReplies, ReadReplies, NumbersReplies, ReplaceReplies, ReachReplies, Tells, ImportReplies, ExportReplies};
-ghost use Rattle.reaching.specs.Replies.{reply_of_reached};
-ghost use Rattle.oldest.specs.Taken.{coordinate_of, width_of};
-ghost use Rattle.oldest.specs.Answers.{reply_of_imported, reply_of_exported};
+ghost use Rattle.oldest.specs.Taken.{coordinate_of, reason_of, width_of};
 
-use drawing::Drawn;
-use editing::Replaced;
-use keeping::Kept;
 use kerb::Style;
-use oldest::{Exported, Imported};
+use oldest::NotTaken;
 use outline::layout::{KERB_KIND, STROKE_KIND, closed_word, join_word};
 use outline::{Edition, Form};
-use reaching::Reached;
 use reading::Read;
-use reading::posts::PostsRead;
-use replies::Refusal;
-use replies::refusals::code;
+use replies::{Code, Refusal};
 use words::wide_bits;
 
 pub mod chunk_calls;
@@ -76,42 +65,33 @@ pub struct Taken {
     pub whole: i32,
 }
 
-// A refusal as a reply.
-fn refusal(r: Refusal) -> Reply
-    ensures { Replies result (refusal_of r) 0 }
-{
-    let c = code(r);
-    plain(c.reply, c.number)
-}
+// A refusal as a reply, without a grade.
+impl From<Refusal> for Reply {
+    ghost from_gives = { λ refusal reply. Replies reply (refusal_of refusal) 0 };
 
-// A reply with its number, without a grade.
-fn plain(reply: u32, number: u64) -> Reply
-    ensures { (result.reply ≡ reply) × (result.number ≡ number) × (result.grade ≡ 0) }
-{
-    Reply {
-        reply,
-        grade: 0,
-        number,
+    fn from(refusal: Refusal) -> Reply {
+        let code = Code::from(refusal);
+        Reply {
+            reply: code.reply,
+            grade: 0,
+            number: code.number,
+        }
     }
 }
 
-// What drawing came to, as a reply.
-fn drawn(answer: Drawn) -> Reply
-    ensures { Replies result (reply_of_drawn answer) 0 }
-{
-    match answer {
-        Drawn::Edges(m) => plain(0, m as u64),
-        Drawn::Refused(r) => refusal(r),
-    }
-}
+// What a call came to as a reply, without a grade.
+impl From<Result<usize, Refusal>> for Reply {
+    ghost from_gives = { λ answer reply. Replies reply (reply_of answer) 0 };
 
-// What keeping came to, as a reply.
-fn kept(answer: Kept) -> Reply
-    ensures { Replies result (reply_of_kept answer) 0 }
-{
-    match answer {
-        Kept::Bytes(n) => plain(0, n as u64),
-        Kept::Refused(r) => refusal(r),
+    fn from(answer: Result<usize, Refusal>) -> Reply {
+        match answer {
+            Ok(number) => Reply {
+                reply: 0,
+                grade: 0,
+                number: number as u64,
+            },
+            Err(refusal) => Reply::from(refusal),
+        }
     }
 }
 
@@ -146,119 +126,73 @@ fn form_numbers(form: Form) -> FormNumbers
 }
 
 // The form beside what reading came to.
-fn form_read(answer: Read) -> Form
+fn form_read(answer: Result<Read, Refusal>) -> Form
     ensures { result ≡ form_of_read answer }
 {
     match answer {
-        Read::Vertices(_, _, form) => form,
-        Read::Refused(_) => Form::Stroke(Edition::First),
+        Ok(read) => read.form,
+        Err(_) => Form::Stroke(Edition::First),
     }
 }
 
-// What reading came to, as a reply.
-fn vertices_read(answer: Read) -> Reply
+// What reading came to as a reply, with the grade.
+fn vertices_read(answer: Result<Read, Refusal>) -> Reply
     ensures { Replies result (reply_of_read answer) (grade_of_read answer) }
 {
     match answer {
-        Read::Vertices(n, grade, _) => Reply {
+        Ok(read) => Reply {
             reply: 0,
-            grade,
-            number: n as u64,
+            grade: read.grade,
+            number: read.vertices as u64,
         },
-        Read::Refused(r) => refusal(r),
+        Err(refusal) => Reply::from(refusal),
     }
 }
 
 // What reading came to, with its form beside it.
-fn path_read(answer: Read) -> Path
+fn path_read(answer: Result<Read, Refusal>) -> Path
     requires { FormWithin (form_of_read answer) }
     ensures { PathReplies result (reply_of_read answer) (grade_of_read answer) (form_of_read answer) }
 {
-    let a = vertices_read(answer);
-    let f = form_numbers(form_read(answer));
+    let reply = vertices_read(answer);
+    let form = form_numbers(form_read(answer));
     Path {
-        reply: a.reply,
-        grade: a.grade,
-        number: a.number,
-        kind: f.kind,
-        radius: f.radius,
-        join: f.join,
-        closed: f.closed,
+        reply: reply.reply,
+        grade: reply.grade,
+        number: reply.number,
+        kind: form.kind,
+        radius: form.radius,
+        join: form.join,
+        closed: form.closed,
     }
 }
 
-// What reading the posts came to, as a reply.
-fn posts_read(answer: PostsRead) -> Reply
-    ensures { Replies result (reply_of_posts answer) 0 }
+// The number of a reason, 1 to 6.
+fn reason_number(reason: NotTaken) -> u32
+    ensures { result ≡ reason_of (Err reason) }
 {
-    match answer {
-        PostsRead::Posts(n) => plain(0, n as u64),
-        PostsRead::Refused(r) => refusal(r),
+    match reason {
+        NotTaken::NotANumber(_) => 1,
+        NotTaken::Infinite(_) => 2,
+        NotTaken::Fraction(_) => 3,
+        NotTaken::TooLarge(_) => 4,
+        NotTaken::NegativeWidth(_) => 5,
+        NotTaken::OddWidth(_) => 6,
     }
-}
-
-// What replacing came to, as a reply.
-fn replaced(answer: Replaced) -> Reply
-    ensures { Replies result (reply_of_replaced answer) 0 }
-{
-    match answer {
-        Replaced::Bytes(n) => plain(0, n as u64),
-        Replaced::Refused(r) => refusal(r),
-    }
-}
-
-// What asking for a reach came to, as a reply.
-fn reached(answer: Reached) -> Reply
-    ensures { Replies result (reply_of_reached answer) 0 }
-{
-    match answer {
-        Reached::To(j) => plain(0, j as u64),
-        Reached::Refused(r) => refusal(r),
-    }
-}
-
-// What importing came to, as a reply.
-fn imported(answer: Imported) -> Reply
-    ensures { Replies result (reply_of_imported answer) 0 }
-{
-    match answer {
-        Imported::Vertices(n) => plain(0, n as u64),
-        Imported::Refused(r) => refusal(r),
-    }
-}
-
-// What exporting came to, as a reply.
-fn exported(answer: Exported) -> Reply
-    ensures { Replies result (reply_of_exported answer) 0 }
-{
-    match answer {
-        Exported::Vertices(n) => plain(0, n as u64),
-        Exported::Refused(r) => refusal(r),
-    }
-}
-
-// A reason, without a whole number.
-fn not_taken(reason: u32) -> Taken
-    ensures { (result.reason ≡ reason) × (result.whole ≡ pos 0) }
-{
-    Taken { reason, whole: 0 }
 }
 
 // What a float is taken for, as numbers.
-fn float_taken(t: oldest::Taken) -> Taken
-    ensures { Tells result t }
-{
-    match t {
-        oldest::Taken::Whole(n) => Taken {
-            reason: 0,
-            whole: n,
-        },
-        oldest::Taken::NotANumber(_) => not_taken(1),
-        oldest::Taken::Infinite(_) => not_taken(2),
-        oldest::Taken::Fraction(_) => not_taken(3),
-        oldest::Taken::TooLarge(_) => not_taken(4),
-        oldest::Taken::NegativeWidth(_) => not_taken(5),
-        oldest::Taken::OddWidth(_) => not_taken(6),
+impl From<Result<i32, NotTaken>> for Taken {
+    ghost from_gives = { λ answer taken. Tells taken answer };
+
+    fn from(answer: Result<i32, NotTaken>) -> Taken {
+        match answer {
+            Ok(whole) => Taken { reason: 0, whole },
+            Err(reason) => Taken {
+                reason: reason_number(reason),
+                whole: 0,
+            },
+        }
     }
 }
 
@@ -267,7 +201,7 @@ fn float_taken(t: oldest::Taken) -> Taken
 pub extern "C" fn sehmelir_draw(path: &[i32], grade: u32, out: &mut [i32]) -> Reply
     ensures { DrawReplies path.now grade out.old result out.new }
 {
-    drawn(calls::draw(path, grade, out))
+    Reply::from(calls::draw(path, grade, out))
 }
 
 // Draws a kerb's edges into lent numbers, four an edge: two numbers a point, and radius, join (0 bevel, 1 round) and closed (0 or 1) beside them.
@@ -282,7 +216,7 @@ pub extern "C" fn sehmelir_draw_kerb(
 ) -> Reply
     ensures { DrawKerbReplies points.now grade radius join closed out.old result out.new }
 {
-    drawn(calls::draw_kerb(points, grade, radius, join, closed, out))
+    Reply::from(calls::draw_kerb(points, grade, radius, join, closed, out))
 }
 
 // Keeps a path's outline as bytes.
@@ -290,7 +224,7 @@ pub extern "C" fn sehmelir_draw_kerb(
 pub extern "C" fn sehmelir_keep(path: &[i32], grade: u32, out: &mut [u8]) -> Reply
     ensures { KeepReplies path.now (plain_posts path.now) grade out.old result out.new }
 {
-    kept(calls::keep(path, grade, out))
+    Reply::from(calls::keep(path, grade, out))
 }
 
 // Keeps a kerb's outline as bytes.
@@ -305,7 +239,7 @@ pub extern "C" fn sehmelir_keep_kerb(
 ) -> Reply
     ensures { KeepKerbReplies points.now grade radius join closed out.old result out.new }
 {
-    kept(calls::keep_kerb(points, grade, radius, join, closed, out))
+    Reply::from(calls::keep_kerb(points, grade, radius, join, closed, out))
 }
 
 // Reads the path of a sound outline into lent numbers, three a vertex, of a kerb two.
@@ -321,7 +255,7 @@ pub extern "C" fn sehmelir_read(store: &[u8], out: &mut [i32]) -> Path
 pub extern "C" fn sehmelir_numbers(store: &[u8], out: &mut [u32]) -> Reply
     ensures { NumbersReplies store.now out.old result out.new }
 {
-    posts_read(calls::numbers(store, out))
+    Reply::from(calls::numbers(store, out))
 }
 
 // Replaces a vertex of a sound outline, in place.
@@ -335,7 +269,7 @@ pub extern "C" fn sehmelir_replace(
 ) -> Reply
     ensures { ReplaceReplies store.old index (record { x = x; y = y; radius = radius }) result store.new }
 {
-    replaced(calls::replace(store, index, x, y, radius))
+    Reply::from(calls::replace(store, index, x, y, radius))
 }
 
 // Tells how far replacing a vertex of a sound outline can reach.
@@ -343,7 +277,7 @@ pub extern "C" fn sehmelir_replace(
 pub extern "C" fn sehmelir_reach(store: &[u8], index: usize) -> Reply
     ensures { ReachReplies store.now index result }
 {
-    reached(calls::reach(store, index))
+    Reply::from(calls::reach(store, index))
 }
 
 // Takes a float of the oldest chunks as a coordinate.
@@ -351,7 +285,7 @@ pub extern "C" fn sehmelir_reach(store: &[u8], index: usize) -> Reply
 pub extern "C" fn sehmelir_take_coordinate(value: f32) -> Taken
     ensures { Tells result (coordinate_of value) }
 {
-    float_taken(oldest::taking::coordinate(value))
+    Taken::from(oldest::taking::coordinate(value))
 }
 
 // Takes a float of the oldest chunks as a width; the whole number is the radius.
@@ -359,7 +293,7 @@ pub extern "C" fn sehmelir_take_coordinate(value: f32) -> Taken
 pub extern "C" fn sehmelir_take_width(value: f32) -> Taken
     ensures { Tells result (width_of value) }
 {
-    float_taken(oldest::taking::width(value))
+    Taken::from(oldest::taking::width(value))
 }
 
 // Takes the floats of the oldest chunks, three a vertex, into lent numbers, three a vertex.
@@ -367,7 +301,7 @@ pub extern "C" fn sehmelir_take_width(value: f32) -> Taken
 pub extern "C" fn sehmelir_import(numbers: &[f32], out: &mut [i32]) -> Reply
     ensures { ImportReplies numbers.now out.old result out.new }
 {
-    imported(oldest::importing::import(numbers, out))
+    Reply::from(oldest::importing::import(numbers, out))
 }
 
 // Writes a path, three numbers a vertex, as the floats of the oldest chunks.
@@ -375,5 +309,5 @@ pub extern "C" fn sehmelir_import(numbers: &[f32], out: &mut [i32]) -> Reply
 pub extern "C" fn sehmelir_export(path: &[i32], out: &mut [f32]) -> Reply
     ensures { ExportReplies path.now out.old result out.new }
 {
-    exported(oldest::exporting::export(path, out))
+    Reply::from(oldest::exporting::export(path, out))
 }

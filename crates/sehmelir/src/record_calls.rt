@@ -6,24 +6,19 @@ ghost use Rattle.record_paths.specs.RecordPaths.{wanted_of};
 ghost use Rattle.sehmelir.specs.Boundary.{DrawReplies, KeepReplies};
 ghost use Rattle.sehmelir.specs.RecordBoundary.{DrawGatheredReplies, KeepGatheredReplies};
 
-use crate::{Reply, kept, refusal, sehmelir_draw};
+use crate::{Reply, sehmelir_draw};
 use record_keeping::keep_gathered;
 use record_paths::{check_count, numbers_of, wanted};
 use records::{Record, gather};
-use replies::path_rows::PathCheck;
 
 // Draws a path of n records, those that are wanted at the front of own numbers: grade and count first, then the call over numbers.
 fn draw_reply(own: &mut [i32], n: usize, grade: u32, out: &mut [i32]) -> Reply
     requires { 4 * wanted_of n grade ≤ length own.old }
     ensures { DrawGatheredReplies own.old n grade out.old result out.new }
 {
-    let checked = check_count(n, grade);
-    match checked {
-        PathCheck::Refused(r) => refusal(r),
-        PathCheck::Passed(m) => {
-            let end = numbers_of(m);
-            sehmelir_draw(&own[0..end], grade, out)
-        }
+    match check_count(n, grade) {
+        Ok(m) => sehmelir_draw(&own[..numbers_of(m)], grade, out),
+        Err(refusal) => Reply::from(refusal),
     }
 }
 
@@ -32,10 +27,9 @@ fn keep_reply(own: &mut [i32], n: usize, grade: u32, out: &mut [u8]) -> Reply
     requires { 4 * wanted_of n grade ≤ length own.old }
     ensures { KeepGatheredReplies own.old n grade out.old result out.new }
 {
-    let checked = check_count(n, grade);
-    match checked {
-        PathCheck::Refused(r) => refusal(r),
-        PathCheck::Passed(m) => kept(keep_gathered(own, m, grade, out)),
+    match check_count(n, grade) {
+        Ok(m) => Reply::from(keep_gathered(own, m, grade, out)),
+        Err(refusal) => Reply::from(refusal),
     }
 }
 
@@ -57,7 +51,8 @@ fn keep_by(path: &[Record], m: usize, grade: u32, own: &mut [i32], out: &mut [u8
     keep_reply(own, path.len(), grade, out)
 }
 
-// Draws the edges of a path of vertex records into lent numbers, four an edge. How many own numbers there are is for speed alone.
+// Draws the edges of a path of vertex records into lent numbers, four an edge. How many own numbers there are is for speed alone; they are lent to the functions above,
+// since of a length that is a const parameter the search does not show that the whole array is lent.
 #[unsafe(no_mangle)]
 pub extern "C" fn sehmelir_draw_records(path: &[Record], grade: u32, out: &mut [i32]) -> Reply
     ensures { DrawReplies (spread record_numbers path.now) grade out.old result out.new }

@@ -1,11 +1,8 @@
 // Salvage for C and Rust: numbers and slices only.
-ghost use Rattle.std.specs.Prelude.{◌≡◌};
-ghost use Rattle.replies.specs.Refusals.{refusal_of};
 ghost use Rattle.salvaging.specs.Salvaging.{reply_of_salvaged, notes_of_salvaged};
 ghost use Rattle.sehmelir.specs.SalvageBoundary.{SalvagedReplies, SalvageReplies};
 
-use replies::Refusal;
-use replies::refusals::code;
+use replies::{Code, Refusal};
 use salvaging::Salvaged;
 
 // A reply with its number, and how many entries the list has; entries 0 when refused.
@@ -18,33 +15,28 @@ pub struct SalvageReply {
     pub entries: u64,
 }
 
-// A reply with its number and the entries.
-fn listed_reply(reply: u32, number: u64, entries: u64) -> SalvageReply
-    ensures { (result.reply ≡ reply) × (result.zero ≡ 0) × (result.number ≡ number) × (result.entries ≡ entries) }
-{
-    SalvageReply {
-        reply,
-        zero: 0,
-        number,
-        entries,
-    }
-}
-
-// A refusal, without entries.
-fn refused_salvage(r: Refusal) -> SalvageReply
-    ensures { SalvagedReplies result (refusal_of r) 0 }
-{
-    let c = code(r);
-    listed_reply(c.reply, c.number, 0)
-}
-
 // What salvage came to, as a reply with its entries.
-fn salvaged(answer: Salvaged) -> SalvageReply
-    ensures { SalvagedReplies result (reply_of_salvaged answer) (notes_of_salvaged answer) }
-{
-    match answer {
-        Salvaged::Outline(bytes, notes) => listed_reply(0, bytes as u64, notes as u64),
-        Salvaged::Refused(r) => refused_salvage(r),
+impl From<Result<Salvaged, Refusal>> for SalvageReply {
+    ghost from_gives = { λ answer reply. SalvagedReplies reply (reply_of_salvaged answer) (notes_of_salvaged answer) };
+
+    fn from(answer: Result<Salvaged, Refusal>) -> SalvageReply {
+        match answer {
+            Ok(salvaged) => SalvageReply {
+                reply: 0,
+                zero: 0,
+                number: salvaged.bytes as u64,
+                entries: salvaged.notes as u64,
+            },
+            Err(refusal) => {
+                let code = Code::from(refusal);
+                SalvageReply {
+                    reply: code.reply,
+                    zero: 0,
+                    number: code.number,
+                    entries: 0,
+                }
+            }
+        }
     }
 }
 
@@ -53,5 +45,5 @@ fn salvaged(answer: Salvaged) -> SalvageReply
 pub extern "C" fn sehmelir_salvage(store: &[u8], out: &mut [u8], list: &mut [u32]) -> SalvageReply
     ensures { SalvageReplies store.now out.old list.old result out.new list.new }
 {
-    salvaged(salvaging::salvage(store, out, list))
+    SalvageReply::from(salvaging::salvage(store, out, list))
 }

@@ -1,4 +1,5 @@
 -- What the table of a sheet says of its bodies, what side by side answers, case by case, and that two outcomes coincide. Assumes nothing.
+use Rattle.std.specs.Prelude.{Result, Ok, Err}
 use mathlib.Core.Path.{◌≡◌, refl, sym, ap, ◌∙◌}
 use mathlib.Core.Bool.{Bool, true, false, ◌||◌}
 use mathlib.Core.List.{List, [], ◌++◌}
@@ -17,7 +18,6 @@ use Rattle.outline.specs.Layout.{kerb_kind, kind_word, count_place, stroke_words
 use Rattle.outline.specs.Outlines.{body_words}
 use Rattle.outline.specs.Stores.{edition_in, edition_of, count_in, path_in, bodies_in, sound_of, edges_in, edges_before, body_bytes_in}
 use Rattle.outline.specs.declared.Edition.{Edition}
-use Rattle.outline.specs.declared.Form.{Form}
 use Rattle.outline.specs.declared.Form.TheVariants.{Stroke}
 use Rattle.outline.proofs.BodiesInBytes.{body_bytes_in_lem, body_inside_in}
 use Rattle.outline.proofs.FormLengths.{entry_four, entries_four, entries_first, entry_most}
@@ -31,8 +31,7 @@ use Rattle.replies.proofs.OneOutcome.{from, from_refusal}
 use Rattle.replies.proofs.Rows.{NoneHold, refusal_some, first-none, none_last, either, rows_zero}
 use Rattle.heading.specs.StoreRows.{store_rows}
 use Rattle.heading.specs.declared.Header.{Header}
-use Rattle.heading.specs.declared.Checked.{Checked}
-use Rattle.heading.specs.declared.Checked.TheVariants as checked
+use Rattle.heading.specs.Headers.{KerbRefused}
 use Rattle.checking.specs.OtherKind.{other_kind_row}
 use Rattle.checking.specs.StoreChecks.{Sound, StoreSays}
 use Rattle.checking.proofs.OtherKinds.{not_other}
@@ -42,7 +41,6 @@ use Rattle.sides.specs.Sides.{chosen, body_at, either_kind_row, body_row, body_r
 use Rattle.sides.specs.declared.Sheet.{Sheet}
 use Rattle.sides.specs.declared.Sheet.TheVariants.{Before, After}
 use Rattle.sides.specs.declared.Located.{Located}
-use Rattle.sides.specs.declared.Located.TheVariants.{Body, Refused}
 
 -- ---- the chosen sheet
 
@@ -53,12 +51,6 @@ chosen_before before after e = rw e refl
 pub chosen_after : {sheet : Sheet} (before after : List ℕ) → sheet ≡ After → chosen sheet before after ≡ after
 unfolding chosen
 chosen_after before after e = rw e refl
-
-pub end_before : {sheet : Sheet} (before after : List ℕ) {e : ℕ} → sheet ≡ Before → e ≤ length (chosen sheet before after) → e ≤ length before
-end_before before after q h = omega (arith, ap length (chosen_before before after q), h)
-
-pub end_after : {sheet : Sheet} (before after : List ℕ) {e : ℕ} → sheet ≡ After → e ≤ length (chosen sheet before after) → e ≤ length after
-end_after before after q h = omega (arith, ap length (chosen_after before after q), h)
 
 -- what holds of both sheets holds of the chosen one
 pub of_chosen {ℓ} : (P : List ℕ → Type ℓ) (sheet : Sheet) (before after : List ℕ) → P before → P after → P (chosen sheet before after)
@@ -113,10 +105,6 @@ module _ {s : List ℕ} {n : ℕ} (a : BodiesInside s n) where
           let k : 5 + w * n ≡ entry_at (Stroke (edition_of (edition_in s))) (count_in s) = rw (places, a.vertices) refl in
           rw (t, edges_in) (h ∙ ap (word_at s) k)
 
-pub edition_read : (s : List ℕ) {e : Edition} {w : ℕ} → e ≡ edition_of w → w ≡ word_at s 0 → e ≡ edition_of (edition_in s)
-unfolding edition_in
-edition_read s h k = h ∙ ap edition_of k
-
 -- one body more
 pub edges_next : (s : List ℕ) (k : ℕ) {sum more : ℕ} → sum ≡ edges_before s k → more ≡ edges_in s k → sum + more ≡ edges_before s (k + 1)
 unfolding edges_before
@@ -129,8 +117,8 @@ unfolding when_done
 refused_none r k e = rw (e, when_done)
 
 module _ {s : List ℕ} {n : ℕ} (a : BodiesInside s n) (i : ℕ) where
-  pub body-none : n < i → LocatesIn s i (Refused (NoVertex i))
-  unfolding reply_of_located offset_of_located length_of_located body_reply body_row first_row refusal_of when_done
+  pub body-none : n < i → LocatesIn s i (Err (NoVertex i))
+  unfolding reply_of_located offset_of_located length_of_located body_reply body_row first_row when_done
   body-none l =
       let t : ltb (count_in s) i ≡ true = lt-ltb (count_in s) i (omega (arith, l, a.vertices)) in
       let e : (9, i) ≡ body_reply s i = rw (t, first_row) in
@@ -145,7 +133,7 @@ module _ {s : List ℕ} {n : ℕ} (a : BodiesInside s n) (i : ℕ) where
     pub body_starts : base + 16 * sum ≤ length s
     body_starts = omega (arith, starts, a.inside i l)
 
-    pub body_some : {edges : ℕ} → edges ≡ edges_in s i → LocatesIn s i (Body (base + 16 * sum) edges)
+    pub body_some : {edges : ℕ} → edges ≡ edges_in s i → LocatesIn s i (Ok (record { offset = base + 16 * sum; edges = edges }))
     unfolding reply_of_located offset_of_located length_of_located body_reply body_row first_row when_done
     body_some ee =
         let t : ltb (count_in s) i ≡ false = le-ltb (count_in s) i (omega (arith, l, a.vertices)) in
@@ -157,42 +145,50 @@ module _ {s : List ℕ} {n : ℕ} (a : BodiesInside s n) (i : ℕ) where
           inside = omega (arith, starts, ee, a.inside i l);
         }
 
-pub locates_as : {s t : List ℕ} {i : ℕ} {r : Located} → s ≡ t → LocatesIn s i r → LocatesIn t i r
+pub locates_as : {s t : List ℕ} {i : ℕ} {r : Result Located Refusal} → s ≡ t → LocatesIn s i r → LocatesIn t i r
 locates_as e h = rw e at h
 
 -- ---- both sheets
 
--- a sound sheet that is not of a kerb
+-- a sound sheet of a stroke
 module _ {s : List ℕ} {h : Header} (a : Sound s h) where
-  kind_row_lem : eqb (kind_word h.form) kerb_kind ≡ (other_kind_row s).0
-  unfolding other_kind_row
-  kind_row_lem = ap (λ (f : Form). eqb (kind_word f) kerb_kind) a.head.form ∙ ap (λ (k : ℕ). eqb k kerb_kind) (sym a.head.headed.kind)
-
   is_sound : sound_of s ≡ true
   is_sound = passed_sound s (first-none (store_rows s) (0, 0) (store_coded s) (ap (λ (r : Reply). r.0) (a.passed (0, 0))))
 
-  pub stroke_bodies : eqb (kind_word h.form) kerb_kind ≡ false → BodiesInside s h.n
-  unfolding body_at
-  stroke_bodies k = record {
-    vertices = a.head.vertices;
-    inside = λ i l.
-        let few : i ≤ length (path_in s) = omega (arith, l, a.head.vertices, path_count_in s) in
-        body_inside_in s i (edition_of (edition_in s)) (not_other s (sym kind_row_lem ∙ k)) a.within is_sound few;
-  }
+  module _ {e : Edition} (f : h.form ≡ Stroke e) where
+    pub stroke_row : (other_kind_row s).0 ≡ false
+    unfolding other_kind_row
+    stroke_row = ap (λ (k : ℕ). eqb k kerb_kind) (a.head.headed.kind ∙ ap kind_word (sym a.head.form ∙ f))
+
+    pub stroke_edition : e ≡ edition_of (edition_in s)
+    stroke_edition = let g : Stroke e ≡ Stroke (edition_of (edition_in s)) = sym f ∙ a.head.form ∙ not_other s stroke_row in cc
+
+    pub stroke_bodies : BodiesInside s h.n
+    unfolding body_at
+    stroke_bodies = record {
+      vertices = a.head.vertices;
+      inside = λ i l.
+          let few : i ≤ length (path_in s) = omega (arith, l, a.head.vertices, path_count_in s) in
+          body_inside_in s i (edition_of (edition_in s)) (not_other s stroke_row) a.within is_sound few;
+    }
+
+  kerb_row : {r : Refusal} → KerbRefused h.form r → ((other_kind_row s).0 ≡ true) × (r ≡ OtherKind 1)
+  unfolding other_kind_row
+  kerb_row (q, (y, f)) = (ap (λ (k : ℕ). eqb k kerb_kind) (a.head.headed.kind ∙ ap kind_word (sym a.head.form ∙ f)), q)
 
 module _ (before after : List ℕ) (sheet : Sheet) (i : ℕ) where
-  locates_refusal : (r : Refusal) → refusal_of r ≡ side_reply before after sheet i → Locates before after sheet i (Refused r)
+  locates_refusal : (r : Refusal) → refusal_of r ≡ side_reply before after sheet i → Locates before after sheet i (Err r)
   unfolding reply_of_located offset_of_located length_of_located side_offset side_length
   locates_refusal r e =
       let f : eqb (side_reply before after sheet i).0 0 ≡ false = rw e at (refusal_some r) in
       record { reply = e; offset = refused_none _ _ f; size = refused_none _ _ f; inside = omega arith }
 
-  pub locates_earlier : {p : List ℤ} {c : Checked} {r : Refusal} → c ≡ checked.Refused r → StoreSays before p c → Locates before after sheet i (Refused r)
+  pub locates_earlier : {p : List ℤ} {c : Result Header Refusal} {r : Refusal} → c ≡ Err r → StoreSays before p c → Locates before after sheet i (Err r)
   unfolding side_reply
   locates_earlier {r = r} e a = locates_refusal r (store_refuses _ _ a e)
 
   module _ {b : Header} (earlier : Sound before b) where
-    pub locates_later : {p : List ℤ} {c : Checked} {r : Refusal} → c ≡ checked.Refused r → StoreSays after p c → Locates before after sheet i (Refused r)
+    pub locates_later : {p : List ℤ} {c : Result Header Refusal} {r : Refusal} → c ≡ Err r → StoreSays after p c → Locates before after sheet i (Err r)
     unfolding side_reply
     locates_later {r = r} e a = locates_refusal r (store_refuses _ _ a e ∙ sym (store_passes _ _ earlier))
 
@@ -201,21 +197,21 @@ module _ (before after : List ℕ) (sheet : Sheet) (i : ℕ) where
       unfolding side_reply
       passed_both = store_passes _ _ earlier ∙ store_passes _ _ later
 
-      locates_kerb : ((other_kind_row before).0 || (other_kind_row after).0) ≡ true → Locates before after sheet i (Refused (OtherKind 1))
-      unfolding side_rows either_kind_row first_row refusal_of
-      locates_kerb t = locates_refusal (OtherKind 1) (sym (passed_both ∙ rw (t, first_row)))
+      locates_kerb : {r : Refusal} → ((other_kind_row before).0 || (other_kind_row after).0) ≡ true → r ≡ OtherKind 1 → Locates before after sheet i (Err r)
+      unfolding side_rows either_kind_row first_row
+      locates_kerb {r} t q = locates_refusal r (rw q (sym (passed_both ∙ rw (t, first_row))))
 
-      pub kerb_before : eqb (kind_word b.form) kerb_kind ≡ true → Locates before after sheet i (Refused (OtherKind 1))
-      kerb_before e = locates_kerb (ap (λ (x : Bool). x || (other_kind_row after).0) (sym (kind_row_lem earlier) ∙ e))
+      pub kerb_before : {r : Refusal} → KerbRefused b.form r → Locates before after sheet i (Err r)
+      kerb_before k = let q = kerb_row earlier k in locates_kerb (ap (λ (x : Bool). x || (other_kind_row after).0) q.0) q.1
 
-      module _ (e : eqb (kind_word b.form) kerb_kind ≡ false) where
-        pub kerb_after : eqb (kind_word d.form) kerb_kind ≡ true → Locates before after sheet i (Refused (OtherKind 1))
-        kerb_after f = locates_kerb (λ j. (sym (kind_row_lem earlier) ∙ e) j || (sym (kind_row_lem later) ∙ f) j)
+      module _ {e : Edition} (f : b.form ≡ Stroke e) where
+        pub kerb_after : {r : Refusal} → KerbRefused d.form r → Locates before after sheet i (Err r)
+        kerb_after k = let q = kerb_row later k in locates_kerb (λ j. stroke_row earlier f j || q.0 j) q.1
 
-        pub locates_body : {r : Located} → eqb (kind_word d.form) kerb_kind ≡ false → LocatesIn (chosen sheet before after) i r → Locates before after sheet i r
+        pub locates_body : {r : Result Located Refusal} {e' : Edition} → d.form ≡ Stroke e' → LocatesIn (chosen sheet before after) i r → Locates before after sheet i r
         unfolding side_rows either_kind_row first_row body_reply side_offset side_length
-        locates_body f a =
-            let t : ((other_kind_row before).0 || (other_kind_row after).0) ≡ false = λ j. (sym (kind_row_lem earlier) ∙ e) j || (sym (kind_row_lem later) ∙ f) j in
+        locates_body f' a =
+            let t : ((other_kind_row before).0 || (other_kind_row after).0) ≡ false = λ j. stroke_row earlier f j || stroke_row later f' j in
             let g : side_reply before after sheet i ≡ body_reply (chosen sheet before after) i = passed_both ∙ rw (t, first_row) in
             record {
               reply = a.reply ∙ sym g;
@@ -226,9 +222,9 @@ module _ (before after : List ℕ) (sheet : Sheet) (i : ℕ) where
 
 -- ---- the part
 
-module _ {before after : List ℕ} {sheet : Sheet} {i : ℕ} {x : Located} (a : Locates before after sheet i x) where
-  module _ {o k : ℕ} (e : x ≡ Body o k) where
-    located : Locates before after sheet i (Body o k)
+module _ {before after : List ℕ} {sheet : Sheet} {i : ℕ} {x : Result Located Refusal} (a : Locates before after sheet i x) where
+  module _ {o k : ℕ} (e : x ≡ Ok (record { offset = o; edges = k })) where
+    located : Locates before after sheet i (Ok (record { offset = o; edges = k }))
     located = rw e at a
 
     pub part_inside : o + 16 * k ≤ length (chosen sheet before after)
@@ -238,7 +234,7 @@ module _ {before after : List ℕ} {sheet : Sheet} {i : ℕ} {x : Located} (a : 
     pub part_fits : length before < 2 ^ 64 → length after < 2 ^ 64 → o + 16 * k < 2 ^ 64
     part_fits b d = omega (arith, part_inside, of_chosen (λ (l : List ℕ). length l < 2 ^ 64) sheet before after b d)
 
-    pub hands_body : {p : List ℕ} → p ≡ take (o + 16 * k - o) (drop o (chosen sheet before after)) → HandsBack before after sheet i 0 k p
+    pub hands_body : {l : List ℕ} → l ≡ chosen sheet before after → HandsBack before after sheet i 0 k (take (o + 16 * k - o) (drop o l))
     unfolding reply_of_located offset_of_located length_of_located side_offset side_length side_part body_bytes_in body_at when_done
     hands_body h =
         let r : (0, k) ≡ side_reply before after sheet i = located.reply in
@@ -246,28 +242,28 @@ module _ {before after : List ℕ} {sheet : Sheet} {i : ℕ} {x : Located} (a : 
         let f : o ≡ body_at s i = located.offset ∙ ap (λ (t : Reply). when_done t (body_at s i) 0) (sym r) in
         let g : 16 * k ≡ 16 * edges_in s i = located.size ∙ ap (λ (t : Reply). when_done t (16 * edges_in s i) 0) (sym r) in
         let c : take (o + 16 * k - o) (drop o s) ≡ body_bytes_in s i = ap (λ (n : ℕ). take n (drop o s)) (add-sub_cancel_left o (16 * k)) ∙ (λ j. take (g j) (drop (f j) s)) in
-        record { told = r; part = h ∙ c ∙ ap (λ (t : Reply). when_done t (body_bytes_in s i) []) r }
+        record { told = r; part = ap (λ (l : List ℕ). take (o + 16 * k - o) (drop o l)) h ∙ c ∙ ap (λ (t : Reply). when_done t (body_bytes_in s i) []) r }
 
-  pub hands_nothing : {r : Refusal} {c : Code} {p : List ℕ} → x ≡ Refused r → Codes c (refusal_of r) → p ≡ take (0 - 0) (drop 0 (chosen sheet before after))
-      → HandsBack before after sheet i c.reply c.number p
+  pub hands_nothing : {r : Refusal} {c : Code} → x ≡ Err r → Codes c (refusal_of r) → HandsBack before after sheet i c.reply c.number []
   unfolding reply_of_located side_part when_done
-  hands_nothing {r} {c} e f h =
+  hands_nothing {r} {c} e f =
       let q : refusal_of r ≡ side_reply before after sheet i = ap reply_of_located (sym e) ∙ a.reply in
       let z : eqb (side_reply before after sheet i).0 0 ≡ false = rw q at (refusal_some r) in
-      record { told = (λ j. (f.reply j, f.number j)) ∙ q; part = h ∙ rw (z, when_done) refl }
+      record { told = (λ j. (f.reply j, f.number j)) ∙ q; part = rw (z, when_done) refl }
 
 -- ---- one outcome
 
-located_back : (r : Located) → from (λ k. Body (offset_of_located r) k) Refused (reply_of_located r).0 (reply_of_located r).1 ≡ r
-unfolding from reply_of_located offset_of_located
-located_back (Body o k) = refl
-located_back (Refused r) = from_refusal (λ k. Body 0 k) Refused r
+made : ℕ → ℕ → Result Located Refusal
+made o k = Ok (record { offset = o; edges = k })
+
+located_back : (r : Result Located Refusal) → from (made (offset_of_located r)) Err (reply_of_located r).0 (reply_of_located r).1 ≡ r
+unfolding from reply_of_located offset_of_located made
+located_back (Ok body) = refl
+located_back (Err r) = from_refusal (made 0) Err r
 
 pub one_side : OneSide
 one_side before after sheet i r q h k =
-    sym (located_back r)
-    ∙ (λ j. from (λ n. Body ((h.offset ∙ sym k.offset) j) n) Refused ((h.reply ∙ sym k.reply) j).0 ((h.reply ∙ sym k.reply) j).1)
-    ∙ located_back q
+    sym (located_back r) ∙ (λ j. from (made ((h.offset ∙ sym k.offset) j)) Err ((h.reply ∙ sym k.reply) j).0 ((h.reply ∙ sym k.reply) j).1) ∙ located_back q
 
 pub one_part : OnePart
 one_part before after sheet i a b n m p q h k =

@@ -1,5 +1,5 @@
 -- Document 02, request 10: side by side, its answer and its promises.
-use Rattle.std.specs.Prelude.{◌≡◌, true, false, ◌||◌, List, [], ◌∷◌, ◌++◌, ℕ, ◌+◌, ◌*◌, ◌≤◌, eqb, ltb, length, get_or}
+use Rattle.std.specs.Prelude.{◌≡◌, true, false, ◌||◌, List, [], ◌∷◌, ◌++◌, ℕ, ◌+◌, ◌*◌, ◌≤◌, eqb, ltb, length, get_or, Result, Ok, Err}
 use Rattle.words.specs.Words.{bytes_of}
 use Rattle.outline.specs.Layout.{kerb_kind, edge_bytes, front_bytes}
 use Rattle.outline.specs.Outlines.{body_words}
@@ -7,12 +7,12 @@ use Rattle.outline.specs.Stores.{edition_in, edition_of, count_in, bodies_in, ed
 use Rattle.outline.specs.declared.Form.TheVariants.{Stroke}
 use Rattle.replies.specs.Replies.{Reply, Row, first_row}
 use Rattle.replies.specs.Refusals.{refusal_of}
+use Rattle.replies.specs.declared.Refusal.{Refusal}
 use Rattle.heading.specs.StoreRows.{store_rows}
 use Rattle.checking.specs.OtherKind.{other_kind_row}
 use Rattle.sides.specs.declared.Sheet.{Sheet}
 use Rattle.sides.specs.declared.Sheet.TheVariants.{Before, After}
 use Rattle.sides.specs.declared.Located.{Located}
-use Rattle.sides.specs.declared.Located.TheVariants.{Body, Refused}
 
 -- A choice of sheet.
 unfoldable pub chosen : Sheet → List ℕ → List ℕ → List ℕ
@@ -57,20 +57,20 @@ side_length before after sheet i = when_done (side_reply before after sheet i) (
 
 -- ---- the answer, and the promises
 
-unfoldable pub reply_of_located : Located → Reply
-reply_of_located (Body offset edges) = (0, edges)
-reply_of_located (Refused r) = refusal_of r
+unfoldable pub reply_of_located : Result Located Refusal → Reply
+reply_of_located (Ok body) = (0, body.edges)
+reply_of_located (Err r) = refusal_of r
 
-unfoldable pub offset_of_located : Located → ℕ
-offset_of_located (Body offset edges) = offset
-offset_of_located (Refused r) = 0
+unfoldable pub offset_of_located : Result Located Refusal → ℕ
+offset_of_located (Ok body) = body.offset
+offset_of_located (Err r) = 0
 
-unfoldable pub length_of_located : Located → ℕ
-length_of_located (Body offset edges) = edge_bytes * edges
-length_of_located (Refused r) = 0
+unfoldable pub length_of_located : Result Located Refusal → ℕ
+length_of_located (Ok body) = edge_bytes * body.edges
+length_of_located (Err r) = 0
 
 -- locate: the reply, and the part's place, which is inside the chosen sheet; the sheets are only read
-pub record Locates (before after : List ℕ) (sheet : Sheet) (i : ℕ) (answer : Located) : Type 0 where
+pub record Locates (before after : List ℕ) (sheet : Sheet) (i : ℕ) (answer : Result Located Refusal) : Type 0 where
   pub reply : reply_of_located answer ≡ side_reply before after sheet i
   pub offset : offset_of_located answer ≡ side_offset before after sheet i
   pub size : length_of_located answer ≡ side_length before after sheet i
@@ -83,7 +83,7 @@ pub record HandsBack (before after : List ℕ) (sheet : Sheet) (i : ℕ) (reply 
 
 -- Each call has one outcome: two that its promise allows coincide.
 abbrev pub OneSide : Type 0
-OneSide = (before after : List ℕ) (sheet : Sheet) (i : ℕ) (r q : Located) → Locates before after sheet i r → Locates before after sheet i q → r ≡ q
+OneSide = (before after : List ℕ) (sheet : Sheet) (i : ℕ) (r q : Result Located Refusal) → Locates before after sheet i r → Locates before after sheet i q → r ≡ q
 
 abbrev pub OnePart : Type 0
 OnePart = (before after : List ℕ) (sheet : Sheet) (i a b n m : ℕ) (p q : List ℕ) → HandsBack before after sheet i a n p → HandsBack before after sheet i b m q
@@ -106,7 +106,7 @@ pub record BodiesInside (s : List ℕ) (n : ℕ) : Type 0 where
 unfoldable pub body_reply : List ℕ → ℕ → Reply
 body_reply s i = first_row (body_row s i ∷ []) (0, edges_in s i)
 
-pub record LocatesIn (s : List ℕ) (i : ℕ) (answer : Located) : Type 0 where
+pub record LocatesIn (s : List ℕ) (i : ℕ) (answer : Result Located Refusal) : Type 0 where
   pub reply : reply_of_located answer ≡ body_reply s i
   pub offset : offset_of_located answer ≡ when_done (body_reply s i) (body_at s i) 0
   pub size : length_of_located answer ≡ when_done (body_reply s i) (edge_bytes * edges_in s i) 0

@@ -1,17 +1,18 @@
 // Side by side: of two lent sheets, one from before an edit and one from after it, the body of a vertex as a part of the chosen one; document 02, request 10.
 #![tactic(auto)]
 
-ghost use Rattle.std.specs.Prelude.{◌≡◌, ◌-◌, ◌≤◌, eqb, length, take, drop};
-ghost use Rattle.outline.specs.Layout.{kerb_kind, kind_word};
+ghost use Rattle.std.specs.Prelude.{◌≡◌, ◌≤◌, length};
+ghost use Rattle.outline.specs.declared.Form.TheVariants.{Stroke};
 ghost use Rattle.checking.specs.StoreChecks.{Sound};
-ghost use Rattle.sides.specs.Sides.{chosen, BodiesInside, LocatesIn, Locates, HandsBack};
+ghost use Rattle.sides.specs.Sides.{chosen, Locates, HandsBack};
 
-use bodies::body_in;
+use crate::bodies::Marked;
 use checking::check;
-use heading::{Checked, Header};
-use outline::layout::{EDGE, KERB_KIND, kind_word};
-use replies::Refusal;
-use replies::refusals::code;
+use checking::sizes::{OWN_NUMBERS, PATH_NUMBERS};
+use heading::Header;
+use outline::Edition;
+use outline::layout::EDGE;
+use replies::{Code, Refusal};
 
 pub mod bodies;
 
@@ -22,77 +23,34 @@ pub enum Sheet {
     After,
 }
 
-// Where a body stands: the byte of its sheet at which it begins, and how many edges it has; or why not.
+impl Sheet {
+    // The chosen one of two.
+    fn chosen<'a>(self, before: &'a [u8], after: &'a [u8]) -> &'a [u8]
+        ensures { result.now ≡ chosen self before.now after.now }
+    {
+        match self {
+            Sheet::Before => before,
+            Sheet::After => after,
+        }
+    }
+}
+
+// Where a body stands: the byte of its sheet at which it begins, and how many edges it has.
 #[derive(Clone, Copy)]
-pub enum Located {
-    Body(usize, usize),
-    Refused(Refusal),
+pub struct Located {
+    pub offset: usize,
+    pub edges: usize,
 }
 
-// The body in the chosen one of two sheets, of n and of m vertices, that mark off their bodies.
-fn locate_in(
-    before: &[u8],
-    n: usize,
-    after: &[u8],
-    m: usize,
-    sheet: Sheet,
-    vertex: usize,
-) -> Located
-    requires { BodiesInside before.now n × BodiesInside after.now m }
-    ensures { LocatesIn (chosen sheet before.now after.now) vertex result }
+// A sheet that passed its rows and is of a stroke marks off its bodies.
+fn marked(bytes: &[u8], header: Header, edition: Edition) -> Marked<'_>
+    requires { Sound bytes.now header × (header.form ≡ Stroke edition) }
+    ensures { result.bytes.now ≡ bytes.now }
 {
-    match sheet {
-        Sheet::Before => body_in(before, n, vertex),
-        Sheet::After => body_in(after, m, vertex),
-    }
-}
-
-// Whether a header is of a kerb.
-fn of_kerb(h: Header) -> bool
-    ensures { result ≡ eqb (kind_word h.form) kerb_kind }
-{
-    let form = h.form;
-    kind_word(form) == KERB_KIND
-}
-
-// The row of the kinds, and then the body, of two sheets that passed their rows.
-fn locate_sound(
-    before: &[u8],
-    b: Header,
-    after: &[u8],
-    a: Header,
-    sheet: Sheet,
-    vertex: usize,
-) -> Located
-    requires { Sound before.now b × Sound after.now a }
-    ensures { Locates before.now after.now sheet vertex result }
-{
-    if of_kerb(b) {
-        return Located::Refused(Refusal::OtherKind(KERB_KIND));
-    }
-    if of_kerb(a) {
-        return Located::Refused(Refusal::OtherKind(KERB_KIND));
-    }
-    locate_in(before, b.n, after, a.n, sheet, vertex)
-}
-
-// The rows of the later sheet, and what follows, where the earlier one passed its own.
-fn locate_later(
-    before: &[u8],
-    b: Header,
-    after: &[u8],
-    sheet: Sheet,
-    vertex: usize,
-    path: &mut [i32],
-    own: &mut [i32],
-) -> Located
-    requires { Sound before.now b × (12288 ≤ length path.old) × (8272 ≤ length own.old) }
-    ensures { Locates before.now after.now sheet vertex result }
-{
-    let later = check(after, path, own);
-    match later {
-        Checked::Refused(r) => Located::Refused(r),
-        Checked::Holds(a) => locate_sound(before, b, after, a, sheet, vertex),
+    Marked {
+        bytes,
+        edition,
+        n: header.n,
     }
 }
 
@@ -104,35 +62,27 @@ pub fn locate_with(
     vertex: usize,
     path: &mut [i32],
     own: &mut [i32],
-) -> Located
-    requires { (12288 ≤ length path.old) × (8272 ≤ length own.old) }
+) -> Result<Located, Refusal>
+    requires { (PATH_NUMBERS ≤ length path.old) × (OWN_NUMBERS ≤ length own.old) }
     ensures { Locates before.now after.now sheet vertex result }
 {
-    let earlier = check(before, path, own);
-    match earlier {
-        Checked::Refused(r) => Located::Refused(r),
-        Checked::Holds(b) => locate_later(before, b, after, sheet, vertex, path, own),
+    let earlier = check(before, path, own)?;
+    let later = check(after, path, own)?;
+    let first = earlier.stroke_edition()?;
+    let second = later.stroke_edition()?;
+    match sheet {
+        Sheet::Before => marked(before, earlier, first).body(vertex),
+        Sheet::After => marked(after, later, second).body(vertex),
     }
 }
 
 // Tells where the body of a vertex stands in the chosen one of two sheets.
-pub fn locate(before: &[u8], after: &[u8], sheet: Sheet, vertex: usize) -> Located
+pub fn locate(before: &[u8], after: &[u8], sheet: Sheet, vertex: usize) -> Result<Located, Refusal>
     ensures { Locates before.now after.now sheet vertex result }
 {
-    let mut path = [0i32; 12288];
-    let mut own = [0i32; 8272];
+    let mut path = [0i32; PATH_NUMBERS];
+    let mut own = [0i32; OWN_NUMBERS];
     locate_with(before, after, sheet, vertex, &mut path, &mut own)
-}
-
-// The part of the chosen sheet from a to e.
-fn part<'a>(before: &'a [u8], after: &'a [u8], sheet: Sheet, a: usize, e: usize) -> &'a [u8]
-    requires { (a ≤ e) × (e ≤ length (chosen sheet before.now after.now)) }
-    ensures { result.now ≡ take (e - a) (drop a (chosen sheet before.now after.now)) }
-{
-    match sheet {
-        Sheet::Before => &before[a..e],
-        Sheet::After => &after[a..e],
-    }
 }
 
 // Hands back the body of a vertex as a part of the chosen one of two sheets, an empty one when refused; the reply and its number go beside it.
@@ -146,19 +96,19 @@ pub fn beside<'a>(
 ) -> &'a [u8]
     ensures { HandsBack before.now after.now sheet vertex reply.new number.new result.now }
 {
-    let located = locate(before, after, sheet, vertex);
-    match located {
-        Located::Body(offset, edges) => {
+    let chosen = sheet.chosen(before, after);
+    match locate(before, after, sheet, vertex) {
+        Ok(located) => {
             *reply = 0;
-            *number = edges as u64;
-            let end = offset + EDGE * edges;
-            part(before, after, sheet, offset, end)
+            *number = located.edges as u64;
+            let end = located.offset + EDGE * located.edges;
+            &chosen[located.offset..end]
         }
-        Located::Refused(r) => {
-            let c = code(r);
-            *reply = c.reply;
-            *number = c.number;
-            part(before, after, sheet, 0, 0)
+        Err(refusal) => {
+            let code = Code::from(refusal);
+            *reply = code.reply;
+            *number = code.number;
+            &chosen[0..0]
         }
     }
 }

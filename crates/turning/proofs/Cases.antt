@@ -1,11 +1,12 @@
 -- One law for each case of a rule, with what the code has computed as variables and equations, so that a proof cites it with the facts of `c`.
 -- Assumes nothing.
-use mathlib.Core.Path.{◌≡◌, refl}
-use mathlib.Core.Bool.{Bool, true, false, or-true, or-false}
+use mathlib.Core.Path.{◌≡◌, refl, sym}
+use mathlib.Core.Bool.{Bool, true, false, true≢false, or-true, or-false}
 use mathlib.Core.List.{[], ◌++◌}
-use Prim.Native.Nat.{ℕ, zero, suc, ◌-◌, ◌≤◌, ◌<◌}
+use Prim.Native.Nat.{ℕ, zero, suc, ◌+◌, ◌-◌, ◌≤◌, ◌<◌}
 use native.Mathlib.Numerals.{sub-one}
 use native.Mathlib.Omega.{arith}
+use denote.Enum.Bare.{sameb}
 use lib.IntN.{ℤ, pos}
 use lib.Signed.{le_z, lt_z}
 use Rattle.plane.specs.Vectors.{same_point, from_to, cross_of, dot_of}
@@ -14,6 +15,7 @@ use Rattle.plane.specs.declared.Point.{Point}
 use Rattle.plane.specs.declared.Vector.{Vector}
 use Rattle.turning.specs.Edges.{edge_of}
 use Rattle.turning.specs.Arcs.{sweep_of, is_major, empty_of, full_of, ring_of, near_of, stops_of, turns_of, swept_of, east_of, west_of, circle_of, arc_of}
+use Rattle.turning.specs.contracts.Sweep.{the_type}
 use Rattle.turning.specs.declared.Sweep.{Sweep}
 use Rattle.turning.specs.declared.Sweep.TheVariants.{Minor, Major}
 use Rattle.turning.specs.declared.Turning.{Turning}
@@ -36,6 +38,24 @@ module _ (m n : Vector) (choice : Sweep) {z : ℤ} (e : z ≡ cross_of m n) wher
   pub sweep_chosen : {y : ℤ} → lt_z (pos 0) z ≡ false → lt_z z (pos 0) ≡ false → y ≡ dot_of m n → lt_z y (pos 0) ≡ false → choice ≡ sweep_of m n choice
   unfolding sweep_of
   sweep_chosen h i f j = rw (← e, h, ← e, i, ← f, j, sweep_of)
+
+-- ---- which kind the test for one kind tells
+
+pub is_minor_told : (w : Sweep) → true ≡ sameb the_type w Minor → w ≡ Minor
+is_minor_told Minor e = refl
+is_minor_told Major e = absurd (true≢false e)
+
+pub is_major_told : (w : Sweep) → false ≡ sameb the_type w Minor → w ≡ Major
+is_major_told Minor e = absurd (true≢false (sym e))
+is_major_told Major e = refl
+
+pub major_told : (w : Sweep) → true ≡ sameb the_type w Major → w ≡ Major
+major_told Minor e = absurd (true≢false e)
+major_told Major e = refl
+
+pub minor_told : (w : Sweep) → false ≡ sameb the_type w Major → w ≡ Minor
+minor_told Minor e = refl
+minor_told Major e = absurd (true≢false (sym e))
 
 -- ---- whether it has no edges
 
@@ -112,6 +132,21 @@ unfolding turns_of
 turns_go zero r d p h e f g i = absurd (omega arith)
 turns_go (suc k) r d p h e f g i =
     rw (sub-one, i, ← e, ← f, g, e, turns_of)
+
+-- ---- the same at the n-th rotation, from 0 on, of at most 1,536
+
+pub rotations_left : {n : ℕ} → n < 1536 → 0 < 1536 - n
+rotations_left h = omega arith
+
+pub rotations_none : {n : ℕ} → 1536 ≤ n → 1536 - n ≤ 0
+rotations_none h = omega arith
+
+one_fewer : (n : ℕ) → 1536 - n - 1 ≡ 1536 - (n + 1)
+one_fewer n = omega arith
+
+pub turns_next : (k : ℕ) (r : Turning) (d : Vector) (p : Point) {n : Vector} {q : Point} {x : Bool} → k < 1536 → n ≡ rotated_of r.step d → x ≡ stops_of d n r.toward → x ≡ false
+    → q ≡ scaled_of r.centre r.radius n → turns_of (1536 - k) r d p ≡ edge_of p q ++ turns_of (1536 - (k + 1)) r n q
+turns_next k r d p {n} {q} h e f g i = rw (← one_fewer k) (turns_go (1536 - k) r d p (rotations_left h) e f g i)
 
 -- ---- from p to q: m and n are the rays, d and u their directions, s the radius
 

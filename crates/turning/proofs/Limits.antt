@@ -7,8 +7,7 @@ use lib.Signed.{mag, quot_z, yes_non_neg, pos-nat_abs}
 use mir.Syntax.{w64}
 use mir.Val.{SFits}
 use Rattle.whole.specs.Sizes.{Size}
-use Rattle.whole.proofs.Sizes.{size_add}
-use Rattle.whole.proofs.Order.{minus_is, abs_minus}
+use Rattle.whole.proofs.Sizes.{size_add, size_sub}
 use Rattle.number.specs.MulDiv.{mul_div_of}
 use Rattle.plane.specs.Vectors.{Near}
 use Rattle.plane.specs.Directions.{UnitLong, rotated_of, scaled_of}
@@ -60,19 +59,22 @@ radius_told_lem h = rw (radius_back h) h
 pub radius_natural : {r : ℤ} → Radius r → pos (nat_abs r) ≡ r
 radius_natural {r} h = pos-nat_abs r (yes_non_neg h.low)
 
-pub minus_small : {r : ℤ} → Radius r → Size (2 ^ 28) (pos 0 -ℤ bits r)
-minus_small {r} h = record { size = rw (radius_back h) (omega (arith, abs_minus r, h.high)) }
-
 -- ---- the ends of a circle's arcs, from what the code has computed
+
+pub east_fits : {a r : ℤ} → Size (2 ^ 28) a → Radius r → SFits w64 (bits a +ℤ bits r)
+east_fits h k = rw (back (small_fits h), radius_back k) (moved_fits h (radius_size k))
 
 pub east_back : (c : Point) (r : ℤ) {a : ℤ} → Centre c → Radius r → a ≡ bits c.x +ℤ bits r → record { x = bits a; y = bits c.y } ≡ east_of c r
 unfolding east_of
 east_back c r h k e = λ i. record { x = sum_back h.x (radius_size k) e i; y = back (small_fits h.y) i }
 
-pub west_back : (c : Point) (r : ℤ) {a : ℤ} → Centre c → Radius r → a ≡ bits c.x +ℤ bits (pos 0 -ℤ bits r) → record { x = bits a; y = bits c.y } ≡ west_of c r
+pub west_fits : {a r : ℤ} → Size (2 ^ 28) a → Radius r → SFits w64 (bits a -ℤ bits r)
+west_fits h k = rw (back (small_fits h), radius_back k) (near_fits (size_sub (2 ^ 28) (2 ^ 28) _ _ h (radius_size k)))
+
+pub west_back : (c : Point) (r : ℤ) {a : ℤ} → Centre c → Radius r → a ≡ bits c.x -ℤ bits r → record { x = bits a; y = bits c.y } ≡ west_of c r
 unfolding west_of
 west_back c r {a} h k e =
-    let f : bits a ≡ c.x -ℤ r = rw (radius_back k, minus_is r) at (sum_back h.x (minus_small k) e) in
+    let f : bits a ≡ c.x -ℤ r = rw e (back (west_fits h.x k) ∙ (rw (back (small_fits h.x), radius_back k))) in
     λ i. record { x = f i; y = back (small_fits h.y) i }
 
 -- ---- an inner point

@@ -94,9 +94,3 @@ point_past h = h.pos
 -- a number of 32 bits, as the code has widened it
 pub widened : {z : ℤ} → SFits w32 z → SFits w64 z
 widened h = record { sfits = omega (arith, h.sfits) }
-
-pub widened_fits : {z : ℤ} → SFits w32 z → SFits w64 (to_z w32 (of_z w32 z))
-widened_fits h = rw (to_z-of_z {w = w32} h) (widened h)
-
-pub widened_back : {z : ℤ} → SFits w32 z → bits (to_z w32 (of_z w32 z)) ≡ z
-widened_back h = rw (to_z-of_z {w = w32} h) (back (widened h))

@@ -9,12 +9,12 @@ ghost use Rattle.turning.specs.Bounds.{Reach};
 
 use crate::Edge;
 use plane::Point;
-use plane::vectors::same;
 
 // The number w at i, where i is inside the room; nothing past it.
 pub fn put(out: &mut [i32], i: usize, w: i32)
     ensures { out.new ≡ set out.old i w }
 {
+    // not by `get_mut`: once its loan ends nothing is known of the numbers
     if i < out.len() {
         out[i] = w;
     }
@@ -41,25 +41,17 @@ fn store_some(out: &mut [i32], at: usize, e: Edge) -> usize
     at + 4
 }
 
-// The number w at i, which is inside the room.
-pub fn place(out: &mut [i32], i: usize, w: i32)
-    requires { i < length out.old }
-    ensures { out.new ≡ set out.old i w }
-{
-    out[i] = w;
-}
-
 // One edge, all of it inside the room.
 pub fn store(out: &mut [i32], at: usize, e: Edge) -> usize
     requires reach { Reach e }
     requires room { Room edge_numbers at (e ∷ []) }
-    requires at_in_bounds { at + 3 < length out.old }
+    requires inside { at + 3 < length out.old }
     ensures { Runs put_of edge_numbers out.old at (e ∷ []) out.new result }
 {
-    place(out, at, narrow(e.a.x));
-    place(out, at + 1, narrow(e.a.y));
-    place(out, at + 2, narrow(e.b.x));
-    place(out, at + 3, narrow(e.b.y));
+    out[at] = narrow(e.a.x);
+    out[at + 1] = narrow(e.a.y);
+    out[at + 2] = narrow(e.b.x);
+    out[at + 3] = narrow(e.b.y);
     at + 4
 }
 
@@ -70,12 +62,12 @@ fn emit(out: &mut [i32], at: usize, e: Edge) -> usize
     ensures { Runs put_of edge_numbers out.old at (e ∷ []) out.new result }
 {
     if at + 4 <= out.len() {
-        return store(out, at, e);
+        store(out, at, e)
+    } else if out.len() <= at {
+        at + 4
+    } else {
+        store_some(out, at, e)
     }
-    if out.len() <= at {
-        return at + 4;
-    }
-    store_some(out, at, e)
 }
 
 // The edge from p to q, or nothing where they are one point.
@@ -84,10 +76,11 @@ pub fn edge(out: &mut [i32], at: usize, p: Point, q: Point) -> usize
     requires room { Room edge_numbers at (edge_of p q) }
     ensures { Runs put_of edge_numbers out.old at (edge_of p q) out.new result }
 {
-    if same(p, q) {
-        return at;
+    if p == q {
+        at
+    } else {
+        emit(out, at, Edge { a: p, b: q })
     }
-    emit(out, at, Edge { a: p, b: q })
 }
 
 // The number at j, with more room.

@@ -5,7 +5,7 @@ ghost use Rattle.plane.specs.Directions.{UnitLong};
 ghost use Rattle.turning.specs.Arcs.{sweep_of, empty_of, full_of};
 
 use crate::Sweep;
-use plane::vectors::{cross, dot, same};
+use plane::vectors::{cross, dot};
 use plane::{Point, Vector};
 
 // How far an arc turns from the ray m to the ray n; the caller's choice where the rays are aligned.
@@ -15,28 +15,21 @@ pub fn sweep(m: Vector, n: Vector, choice: Sweep) -> Sweep
 {
     let z = cross(m, n);
     if 0 < z {
-        return Sweep::Minor;
+        Sweep::Minor
+    } else if z < 0 {
+        Sweep::Major
+    } else if dot(m, n) < 0 {
+        Sweep::Minor
+    } else {
+        choice
     }
-    if z < 0 {
-        return Sweep::Major;
-    }
-    if dot(m, n) < 0 { Sweep::Minor } else { choice }
 }
 
 // Whether an arc from p to q about c has no edges.
 pub fn empty(w: Sweep, c: Point, p: Point, q: Point) -> bool
     ensures { result ≡ empty_of w c p q }
 {
-    if same(p, c) {
-        return true;
-    }
-    if same(q, c) {
-        return true;
-    }
-    match w {
-        Sweep::Minor => same(p, q),
-        Sweep::Major => false,
-    }
+    p == c || q == c || w == Sweep::Minor && p == q
 }
 
 // Whether an arc from the direction d to e is a circle.
@@ -44,8 +37,5 @@ pub fn full(w: Sweep, d: Vector, e: Vector) -> bool
     requires { UnitLong d × UnitLong e }
     ensures { result ≡ full_of w d e }
 {
-    match w {
-        Sweep::Minor => false,
-        Sweep::Major => 0 <= cross(d, e) && 0 < dot(d, e),
-    }
+    w == Sweep::Major && 0 <= cross(d, e) && 0 < dot(d, e)
 }

@@ -8,14 +8,14 @@ pub mod kinds;
 pub mod turn;
 
 // An edge, from a to b.
-#[derive(Clone, Copy)]
+#[derive(Clone, Copy, PartialEq, Eq, Debug)]
 pub struct Edge {
     pub a: Point,
     pub b: Point,
 }
 
 // How far an arc turns: less than half a turn, or more.
-#[derive(Clone, Copy)]
+#[derive(Clone, Copy, PartialEq, Eq, Debug)]
 pub enum Sweep {
     Minor,
     Major,

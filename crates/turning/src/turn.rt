@@ -1,6 +1,5 @@
 // An arc's turning: rotation after rotation, each direction scaled by the radius, until the end's direction is reached.
-ghost use Rattle.std.specs.Prelude.{◌≡◌, ◌^◌, ◌+ℤ◌};
-ghost use Rattle.whole.specs.Sizes.{Size};
+ghost use Rattle.std.specs.Prelude.{◌≡◌};
 ghost use Rattle.runs.specs.Runs.{Runs, Room, put};
 ghost use Rattle.plane.specs.Vectors.{Near, cross_of};
 ghost use Rattle.plane.specs.Directions.{UnitLong, scaled_of};
@@ -13,6 +12,9 @@ use crate::edges::edge;
 use plane::rotation::{heading, scaled, swung};
 use plane::vectors::{cross, dot};
 use plane::{Point, Vector};
+
+// After so many rotations an arc stops in any case.
+pub const MOST_ROTATIONS: usize = 1536;
 
 // Whether the direction d is near the end's direction e, where z is their cross product.
 fn near(z: i64, d: Vector, e: Vector) -> bool
@@ -31,14 +33,6 @@ pub fn stops(z: i64, d: Vector, next: Vector, e: Vector) -> bool
     cross(next, e) <= 0 && near(z, d, e)
 }
 
-// A coordinate moved by an offset.
-pub fn moved(a: i64, by: i64) -> i64
-    requires { Size (2 ^ 28) a × Size (2 ^ 28) by }
-    ensures { result ≡ a +ℤ by }
-{
-    a + by
-}
-
 // The point in the direction d, at the radius from the centre.
 pub fn point_at(c: Point, radius: i64, d: Vector) -> Point
     requires { Centre c × Radius radius × UnitLong d }
@@ -46,8 +40,8 @@ pub fn point_at(c: Point, radius: i64, d: Vector) -> Point
 {
     let r = radius as u64;
     Point {
-        x: moved(c.x, scaled(d.x, r)),
-        y: moved(c.y, scaled(d.y, r)),
+        x: c.x + scaled(d.x, r),
+        y: c.y + scaled(d.y, r),
     }
 }
 
@@ -61,10 +55,9 @@ pub fn written(out: &mut [i32], at: usize, r: Turning, d: Vector, p: Point) -> u
     let mut dir = d;
     let mut cur = p;
     let mut n = at;
-    let mut left: usize = 1536;
     let mut z = cross(dir, r.toward);
     let mut s = swung(r.step, dir);
-    while 0 < left {
+    for _ in 0..MOST_ROTATIONS {
         let next = heading(s);
         if stops(z, dir, next, r.toward) {
             return edge(out, n, cur, r.to);
@@ -75,7 +68,6 @@ pub fn written(out: &mut [i32], at: usize, r: Turning, d: Vector, p: Point) -> u
         s = swung(r.step, next);
         dir = next;
         cur = q;
-        left -= 1;
     }
     edge(out, n, cur, r.to)
 }

@@ -1,8 +1,10 @@
 -- One law for each case of a chain's or a walk's step, with what the code has computed as variables and equations. Assumes nothing.
+use Rattle.std.specs.Prelude.{Option, Some, None}
 use mathlib.Core.Path.{◌≡◌, refl, sym, ◌∙◌}
-use mathlib.Core.Bool.{Bool, true, false}
+use mathlib.Core.Bool.{Bool, true, false, ◌||◌}
 use mathlib.Core.List.{List, [], ◌++◌}
 use Prim.Native.Nat.{ℕ, ◌^◌, ◌<◌}
+use denote.Enum.Bare.{sameb}
 use lib.IntN.{ℤ}
 use lib.Signed.{le_z, mag}
 use Rattle.plane.proofs.Products.{bits, back}
@@ -24,56 +26,60 @@ use Rattle.contacts.specs.declared.Vertex.{Vertex}
 use Rattle.contacts.specs.declared.Section.{Section}
 use Rattle.contacts.specs.declared.Kind.{Kind}
 use Rattle.contacts.specs.declared.Kind.TheVariants.{Broken, Drawn, Thin}
+use Rattle.joins.specs.contracts.Cap.{the_type}
 use Rattle.joins.specs.declared.Cap.{Cap}
 use Rattle.joins.specs.declared.Cap.TheVariants.{Butt, Round}
-use Rattle.contacts.specs.declared.Last.{Last}
-use Rattle.contacts.specs.declared.Last.TheVariants.{Nothing, Held}
 use Rattle.variable_stroke.specs.declared.Chain.{Chain}
 use Rattle.variable_stroke.specs.declared.Walk.{Walk}
 use Rattle.variable_stroke.specs.declared.builder.Stepped.{Stepped}
 use Rattle.variable_stroke.specs.declared.builder.Left.{Left}
 
+-- ---- both caps
+
+pub first_round : (k j : Cap) {x : Bool} → x ≡ sameb the_type k Butt → x ≡ false → x ≡ both_butt k j
+unfolding both_butt
+first_round Butt j e f = cc
+first_round Round j e f = f
+
+pub first_butt : (k j : Cap) {x y : Bool} → x ≡ sameb the_type k Butt → x ≡ true → y ≡ sameb the_type j Butt → y ≡ both_butt k j
+unfolding both_butt
+first_butt Butt Butt e f g = g
+first_butt Butt Round e f g = g
+first_butt Round j e f g = cc
+
 -- ---- the end of a chain
 
 module _ (t : Vector) (c : Chain) (k : Cap) where
-  pub lone_marked : c.mark ≡ true → lone_of t c k ≡ []
+  pub lone_not : {x : Bool} → x ≡ (c.mark || both_butt c.cap k) → x ≡ true → lone_of t c k ≡ []
   unfolding lone_of
-  lone_marked e = rw (e, lone_of)
+  lone_not e f = rw (sym e ∙ f, lone_of)
 
-  pub lone_butt : {x : Bool} → c.mark ≡ false → x ≡ both_butt c.cap k → x ≡ true → lone_of t c k ≡ []
-  unfolding lone_of
-  lone_butt e f g = let h : both_butt c.cap k ≡ true = sym f ∙ g in rw (e, h, lone_of)
-
-  pub lone_circle : {x : Bool} {p : Point} → mag c.start.radius < 2 ^ 63 → c.mark ≡ false → x ≡ both_butt c.cap k → x ≡ false → p ≡ centre_of c.start
+  pub lone_circle : {x : Bool} {p : Point} → mag c.start.radius < 2 ^ 63 → x ≡ (c.mark || both_butt c.cap k) → x ≡ false → p ≡ centre_of c.start
       → lone_of t c k ≡ circle_of t p (bits c.start.radius)
   unfolding lone_of
-  lone_circle m e f g h =
-      let i : both_butt c.cap k ≡ false = sym f ∙ g in
+  lone_circle m e f h =
       let b : bits c.start.radius ≡ c.start.radius = back (record { sfits = m }) in
-      rw (e, i, h, b, lone_of)
+      rw (sym e ∙ f, h, b, lone_of)
 
-  pub finish_held : {s : Section} → c.last ≡ Held s → finish_of t c k ≡ end_cap t s k
+  pub finish_held : {s : Section} → c.last ≡ Some s → finish_of t c k ≡ end_cap t s k
   unfolding finish_of finish_last
   finish_held e = rw e
 
-  pub finish_by : {j : Cap} → k ≡ j → finish_of t c k ≡ finish_of t c j
-  finish_by e = rw e
-
-  pub finish_none : c.last ≡ Nothing → finish_of t c k ≡ lone_of t c k
+  pub finish_none : c.last ≡ None → finish_of t c k ≡ lone_of t c k
   unfolding finish_of finish_last
   finish_none e = rw e
 
-pub held_around : {s : Section} (l : Last) → l ≡ Held s → AroundLast l → Around s
+pub held_around : {s : Section} (l : Option Section) → l ≡ Some s → AroundLast l → Around s
 unfolding AroundLast
 held_around l e h = rw e at h
 
 -- ---- a drawn step
 
-pub meet_held : (t : Vector) (l : Last) (k : Cap) (s : Section) {prev : Section} → l ≡ Held prev → meet_last t l k s ≡ join_of t prev s
+pub meet_held : (t : Vector) (l : Option Section) (k : Cap) (s : Section) {prev : Section} → l ≡ Some prev → meet_last t l k s ≡ join_of t prev s
 unfolding meet_last
 meet_held t l k s e = rw e
 
-pub meet_none : (t : Vector) (l : Last) (k : Cap) (s : Section) → l ≡ Nothing → meet_last t l k s ≡ start_cap t s k
+pub meet_none : (t : Vector) (l : Option Section) (k : Cap) (s : Section) → l ≡ None → meet_last t l k s ≡ start_cap t s k
 unfolding meet_last
 meet_none t l k s e = rw e
 
@@ -81,7 +87,7 @@ pub drawn_is : (t : Vector) (c : Chain) (s : Section) → drawn_of t c s ≡ edg
 unfolding drawn_of
 drawn_is t c s = refl
 
-pub marked_is : (c : Chain) (l : Last) → record { start = c.start; cap = c.cap; last = l; mark = true } ≡ marked_of c l
+pub marked_is : (c : Chain) (l : Option Section) → record { start = c.start; cap = c.cap; last = l; mark = true } ≡ marked_of c l
 unfolding marked_of
 marked_is c l = refl
 
@@ -113,7 +119,7 @@ emitted_broken t w b e f = rw (f, e, emitted_of)
 
 pub walk_broken : {l₀ l₁ : List ℤ} {at : ℕ} (pen : Pen) (w : Walk) (b : Vertex) {i j : Cap} {f g : Stepped} → kind_of w.at b ≡ Broken
     → i ≡ break_end w.at b → j ≡ break_start w.at b → Finishes l₀ at pen w.chain i l₁ f → Starts f.at b j g
-    → Strides l₀ at pen w b l₁ (record { walk = record { at = b; chain = g.chain; previous = Nothing; closing = Round }; at = g.at })
+    → Strides l₀ at pen w b l₁ (record { walk = record { at = b; chain = g.chain; previous = None; closing = Round }; at = g.at })
 unfolding next_of next_chain next_last next_closing
 walk_broken pen w b {i} {j} e ei ej p q = record {
   walk = rw (q.chain, ej, e);
@@ -153,7 +159,7 @@ emitted_thin t w b e = rw (e, emitted_of)
 
 pub walk_drawn : {l₀ l₁ l₂ : List ℤ} {at : ℕ} (pen : Pen) (w : Walk) (b : Vertex) {s : Section} {r : Left} {g : Stepped} → kind_of w.at b ≡ Drawn
     → Leaves l₀ at pen w b l₁ r → s ≡ section_of w.at b → Extends l₁ r.at pen r.chain s l₂ g
-    → Strides l₀ at pen w b l₂ (record { walk = record { at = b; chain = g.chain; previous = Held s; closing = r.closing }; at = g.at })
+    → Strides l₀ at pen w b l₂ (record { walk = record { at = b; chain = g.chain; previous = Some s; closing = r.closing }; at = g.at })
 unfolding next_of next_chain next_last next_closing
 walk_drawn pen w b {s} {r} {g} e l f d = record {
   walk = rw (d.chain, l.chain, l.closing, f, e);
@@ -161,7 +167,7 @@ walk_drawn pen w b {s} {r} {g} e l f d = record {
 }
 
 pub walk_thin : {l₀ l₁ : List ℤ} {at : ℕ} (pen : Pen) (w : Walk) (b : Vertex) {r : Left} {g : Stepped} → kind_of w.at b ≡ Thin → Leaves l₀ at pen w b l₁ r
-    → Marks r.at r.chain g → Strides l₀ at pen w b l₁ (record { walk = record { at = b; chain = g.chain; previous = Nothing; closing = r.closing }; at = g.at })
+    → Marks r.at r.chain g → Strides l₀ at pen w b l₁ (record { walk = record { at = b; chain = g.chain; previous = None; closing = r.closing }; at = g.at })
 unfolding next_of next_chain next_last next_closing
 walk_thin pen w b e l p = record {
   walk = rw (p.chain, l.chain, l.closing, e);
@@ -186,7 +192,7 @@ leave_around w b h e = rw e (go (covered_of w.previous b))
     go true = fresh_around w.at Butt h.at
     go false = h.chain
 
-marked_around : (c : Chain) (l : Last) → AroundChain c → AroundLast l → AroundChain (marked_of c l)
+marked_around : (c : Chain) (l : Option Section) → AroundChain c → AroundLast l → AroundChain (marked_of c l)
 unfolding marked_of
 marked_around c l h k = record { start = h.start; last = k }
 
@@ -199,5 +205,5 @@ next_around w b f h i = go (kind_of w.at b) refl
     go Broken e = record { at = i; chain = fresh_around b (break_start w.at b) i; previous = tt }
     go Drawn e =
         let s = f (drawn_whole w.at b e) in
-        record { at = i; chain = marked_around (leave_chain w b) (Held (section_of w.at b)) (leave_around w b h refl) s; previous = s }
+        record { at = i; chain = marked_around (leave_chain w b) (Some (section_of w.at b)) (leave_around w b h refl) s; previous = s }
     go Thin e = record { at = i; chain = marked_around (leave_chain w b) (leave_chain w b).last (leave_around w b h refl) (leave_around w b h refl).last; previous = tt }

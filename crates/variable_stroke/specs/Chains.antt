@@ -1,5 +1,5 @@
 -- Document 01, "Chains".
-use Rattle.std.specs.Prelude.{Bool, true, false, ◌||◌, List, [], ◌++◌}
+use Rattle.std.specs.Prelude.{Bool, true, false, ◌||◌, List, [], ◌++◌, Option, Some, None}
 use Rattle.std.specs.Int.Signed.{le_z}
 use Rattle.plane.specs.declared.Vector.{Vector}
 use Rattle.turning.specs.Edges.{edge_of}
@@ -14,14 +14,12 @@ use Rattle.contacts.specs.declared.Kind.{Kind}
 use Rattle.contacts.specs.declared.Kind.TheVariants.{Broken, Drawn, Thin}
 use Rattle.joins.specs.declared.Cap.{Cap}
 use Rattle.joins.specs.declared.Cap.TheVariants.{Butt, Round}
-use Rattle.contacts.specs.declared.Last.{Last}
-use Rattle.contacts.specs.declared.Last.TheVariants.{Nothing, Held}
 use Rattle.variable_stroke.specs.declared.Chain.{Chain}
 use Rattle.variable_stroke.specs.declared.Walk.{Walk}
 
 -- A chain starts at a vertex with a cap: no section yet, no step marked.
 unfoldable pub fresh_of : Vertex → Cap → Chain
-fresh_of v k = record { start = v; cap = k; last = Nothing; mark = false }
+fresh_of v k = record { start = v; cap = k; last = None; mark = false }
 
 unfoldable pub both_butt : Cap → Cap → Bool
 both_butt Butt Butt = true
@@ -32,17 +30,17 @@ both_butt Round end = false
 unfoldable pub lone_of : Vector → Chain → Cap → List Edge
 lone_of t c k = elim (c.mark || both_butt c.cap k) [ true ↦ [] | false ↦ circle_of t (centre_of c.start) c.start.radius ]
 
-unfoldable pub finish_last : Vector → Last → Chain → Cap → List Edge
-finish_last t (Held s) c k = end_cap t s k
-finish_last t Nothing c k = lone_of t c k
+unfoldable pub finish_last : Vector → Option Section → Chain → Cap → List Edge
+finish_last t (Some s) c k = end_cap t s k
+finish_last t None c k = lone_of t c k
 
 unfoldable pub finish_of : Vector → Chain → Cap → List Edge
 finish_of t c k = finish_last t c.last c k
 
 -- a join to the chain's last section, or the start cap
-unfoldable pub meet_last : Vector → Last → Cap → Section → List Edge
-meet_last t (Held prev) k s = join_of t prev s
-meet_last t Nothing k s = start_cap t s k
+unfoldable pub meet_last : Vector → Option Section → Cap → Section → List Edge
+meet_last t (Some prev) k s = join_of t prev s
+meet_last t None k s = start_cap t s k
 
 -- If drawn: edges b_left to a_left, a_right to b_right; then a join to the chain's last section, or the start cap.
 unfoldable pub drawn_of : Vector → Chain → Section → List Edge
@@ -63,11 +61,11 @@ unfoldable pub leave_chain : Walk → Vertex → Chain
 leave_chain w b = elim (covered_of w.previous b) [ true ↦ fresh_of w.at Butt | false ↦ w.chain ]
 
 -- The closing cap is then Butt if b is the last vertex. In every other step it is Round.
-unfoldable pub leave_closing : Last → Vertex → Cap
+unfoldable pub leave_closing : Option Section → Vertex → Cap
 leave_closing previous b = elim (covered_of previous b) [ true ↦ Butt | false ↦ Round ]
 
 -- Set the mark. The last section is the one drawn, or stays on a thin step.
-unfoldable pub marked_of : Chain → Last → Chain
+unfoldable pub marked_of : Chain → Option Section → Chain
 marked_of c l = record { start = c.start; cap = c.cap; last = l; mark = true }
 
 -- The step to b: what it emits,
@@ -81,17 +79,17 @@ emitted_of t w b = elim (kind_of w.at b) [
 -- the chain that it leaves,
 unfoldable pub next_chain : Kind → Walk → Vertex → Chain
 next_chain Broken w b = fresh_of b (break_start w.at b)
-next_chain Drawn w b = marked_of (leave_chain w b) (Held (section_of w.at b))
+next_chain Drawn w b = marked_of (leave_chain w b) (Some (section_of w.at b))
 next_chain Thin w b = marked_of (leave_chain w b) (leave_chain w b).last
 
 -- its section, if it was drawn,
-unfoldable pub next_last : Kind → Vertex → Vertex → Last
-next_last Broken a b = Nothing
-next_last Drawn a b = Held (section_of a b)
-next_last Thin a b = Nothing
+unfoldable pub next_last : Kind → Vertex → Vertex → Option Section
+next_last Broken a b = None
+next_last Drawn a b = Some (section_of a b)
+next_last Thin a b = None
 
 -- and the closing cap.
-unfoldable pub next_closing : Kind → Last → Vertex → Cap
+unfoldable pub next_closing : Kind → Option Section → Vertex → Cap
 next_closing Broken previous b = Round
 next_closing Drawn previous b = leave_closing previous b
 next_closing Thin previous b = leave_closing previous b
@@ -103,7 +101,7 @@ next_of w b =
 
 -- The first chain starts Round at the first vertex.
 unfoldable pub start_of : Vertex → Walk
-start_of v = record { at = v; chain = fresh_of v Round; previous = Nothing; closing = Round }
+start_of v = record { at = v; chain = fresh_of v Round; previous = None; closing = Round }
 
 -- At the end, finish with the closing cap.
 abbrev pub close_of : Vector → Walk → List Edge

@@ -1,5 +1,5 @@
 -- What the steps of chains and walks hand back, and which edges they have put.
-use Rattle.std.specs.Prelude.{◌≡◌, List, ℕ, ℤ}
+use Rattle.std.specs.Prelude.{◌≡◌, List, ℕ, ℤ, Some}
 use Rattle.runs.specs.Runs.{Runs, put}
 use Rattle.plane.specs.declared.Vector.{Vector}
 use Rattle.turning.specs.Edges.{edge_numbers}
@@ -9,7 +9,6 @@ use Rattle.variable_stroke.specs.Chains.{fresh_of, finish_of, drawn_of, leave_ed
 use Rattle.contacts.specs.declared.Vertex.{Vertex}
 use Rattle.contacts.specs.declared.Section.{Section}
 use Rattle.joins.specs.declared.Cap.{Cap}
-use Rattle.contacts.specs.declared.Last.TheVariants.{Held}
 use Rattle.variable_stroke.specs.declared.Chain.{Chain}
 use Rattle.variable_stroke.specs.declared.Walk.{Walk}
 use Rattle.variable_stroke.specs.declared.builder.Stepped.{Stepped}
@@ -28,7 +27,7 @@ pub record Starts (a₀ : ℕ) (v : Vertex) (k : Cap) (r : Stepped) : Type 0 whe
 
 -- a chain after a drawn step
 pub record Extends (l₀ : List ℤ) (at : ℕ) (pen : Pen) (c : Chain) (s : Section) (l₁ : List ℤ) (r : Stepped) : Type 0 where
-  pub chain : r.chain ≡ marked_of c (Held s)
+  pub chain : r.chain ≡ marked_of c (Some s)
   pub made : Lays pen.step pen.folds l₀ at (drawn_of pen.step c s) l₁ r.at
 
 -- a chain after a thin step: no edges

@@ -15,7 +15,7 @@ use crate::{Chain, Walk};
 use arc::circle::circle;
 use contacts::math::{centre, kind};
 use contacts::sections::{covered, section};
-use contacts::{Kind, Last, Section, Vertex};
+use contacts::{Kind, Section, Vertex};
 use folds::Pen;
 use joins::Cap;
 use joins::builder_join::{end_cap, join, start_cap};
@@ -48,13 +48,7 @@ pub struct Left {
 fn both_butt(start: Cap, end: Cap) -> bool
     ensures { result ≡ both_butt start end }
 {
-    match start {
-        Cap::Round => false,
-        Cap::Butt => match end {
-            Cap::Butt => true,
-            Cap::Round => false,
-        },
-    }
+    start == Cap::Butt && end == Cap::Butt
 }
 
 impl Chain {
@@ -64,8 +58,8 @@ impl Chain {
     {
         Chain {
             start: v,
-            cap: cap,
-            last: Last::Nothing,
+            cap,
+            last: None,
             mark: false,
         }
     }
@@ -76,15 +70,11 @@ impl Chain {
         requires room { Room edge_numbers at (lone_of pen.step self cap) }
         ensures { Lays pen.step pen.folds out.old at (lone_of pen.step self cap) out.new result }
     {
-        let start = self.start;
-        let begun = self.cap;
-        if self.mark {
-            return at;
+        if self.mark || both_butt(self.cap, cap) {
+            at
+        } else {
+            circle(out, at, pen, centre(self.start), self.start.radius)
         }
-        if both_butt(begun, cap) {
-            return at;
-        }
-        circle(out, at, pen, centre(start), start.radius)
     }
 
     // What ends the chain.
@@ -93,10 +83,9 @@ impl Chain {
         requires room { Room edge_numbers at (finish_of pen.step self cap) }
         ensures { Lays pen.step pen.folds out.old at (finish_of pen.step self cap) out.new result }
     {
-        let last = self.last;
-        match last {
-            Last::Held(s) => end_cap(out, at, pen, s, cap),
-            Last::Nothing => self.lone(out, at, pen, cap),
+        match self.last {
+            Some(s) => end_cap(out, at, pen, s, cap),
+            None => self.lone(out, at, pen, cap),
         }
     }
 
@@ -109,12 +98,12 @@ impl Chain {
     {
         match cap {
             Cap::Round => {
-                let n = self.end(out, at, pen, Cap::Round);
-                Stepped { chain: self, at: n }
+                let at = self.end(out, at, pen, Cap::Round);
+                Stepped { chain: self, at }
             }
             Cap::Butt => {
-                let n = self.end(out, at, pen, Cap::Butt);
-                Stepped { chain: self, at: n }
+                let at = self.end(out, at, pen, Cap::Butt);
+                Stepped { chain: self, at }
             }
         }
     }
@@ -124,10 +113,7 @@ impl Chain {
         ensures { Starts at v cap result }
     {
         self = Chain::new(v, cap);
-        Stepped {
-            chain: self,
-            at: at,
-        }
+        Stepped { chain: self, at }
     }
 
     // A join to the last section, or the start cap.
@@ -136,11 +122,9 @@ impl Chain {
         requires room { Room edge_numbers at (meet_last pen.step self.last self.cap s) }
         ensures { Lays pen.step pen.folds out.old at (meet_last pen.step self.last self.cap s) out.new result }
     {
-        let last = self.last;
-        let cap = self.cap;
-        match last {
-            Last::Held(prev) => join(out, at, pen, prev, s),
-            Last::Nothing => start_cap(out, at, pen, s, cap),
+        match self.last {
+            Some(prev) => join(out, at, pen, prev, s),
+            None => start_cap(out, at, pen, s, self.cap),
         }
     }
 
@@ -150,10 +134,8 @@ impl Chain {
         requires room { Room edge_numbers at (drawn_of pen.step self s) }
         ensures { Lays pen.step pen.folds out.old at (drawn_of pen.step self s) out.new result }
     {
-        let left = s.left;
-        let right = s.right;
-        let n = edge(out, at, left.b, left.a);
-        let m = edge(out, n, right.a, right.b);
+        let n = edge(out, at, s.left.b, s.left.a);
+        let m = edge(out, n, s.right.a, s.right.b);
         self.meet(out, m, pen, s)
     }
 
@@ -163,16 +145,10 @@ impl Chain {
         requires room { Room edge_numbers at (drawn_of pen.step self s) }
         ensures { Extends out.old at pen self s out.new result }
     {
-        let n = self.drawn(out, at, pen, s);
-        let start = self.start;
-        let cap = self.cap;
-        self = Chain {
-            start: start,
-            cap: cap,
-            last: Last::Held(s),
-            mark: true,
-        };
-        Stepped { chain: self, at: n }
+        let at = self.drawn(out, at, pen, s);
+        self.last = Some(s);
+        self.mark = true;
+        Stepped { chain: self, at }
     }
 
     // A thin step made: the mark is set, the last section stays, and nothing is drawn.
@@ -180,10 +156,7 @@ impl Chain {
         ensures { Marks at self result }
     {
         self.mark = true;
-        Stepped {
-            chain: self,
-            at: at,
-        }
+        Stepped { chain: self, at }
     }
 }
 
@@ -192,9 +165,10 @@ fn break_end(a: Vertex, b: Vertex) -> Cap
     ensures { result ≡ break_end a b }
 {
     if b.radius <= a.radius {
-        return Cap::Round;
+        Cap::Round
+    } else {
+        Cap::Butt
     }
-    Cap::Butt
 }
 
 // The cap that the next chain starts with.
@@ -202,9 +176,10 @@ fn break_start(a: Vertex, b: Vertex) -> Cap
     ensures { result ≡ break_start a b }
 {
     if b.radius <= a.radius {
-        return Cap::Butt;
+        Cap::Butt
+    } else {
+        Cap::Round
     }
-    Cap::Round
 }
 
 impl Walk {
@@ -215,7 +190,7 @@ impl Walk {
         Walk {
             at: v,
             chain: Chain::new(v, Cap::Round),
-            previous: Last::Nothing,
+            previous: None,
             closing: Cap::Round,
         }
     }
@@ -226,16 +201,13 @@ impl Walk {
         requires room { Room edge_numbers at (emitted_of pen.step self b) }
         ensures { Strides out.old at pen self b out.new result }
     {
-        let a = self.at;
-        let chain = self.chain;
-        let ended = chain.finish(out, at, pen, break_end(a, b));
-        let begun = ended.chain.start(ended.at, b, break_start(a, b));
-        let next = begun.chain;
+        let ended = self.chain.finish(out, at, pen, break_end(self.at, b));
+        let begun = ended.chain.start(ended.at, b, break_start(self.at, b));
         Walked {
             walk: Walk {
                 at: b,
-                chain: next,
-                previous: Last::Nothing,
+                chain: begun.chain,
+                previous: None,
                 closing: Cap::Round,
             },
             at: begun.at,
@@ -248,23 +220,20 @@ impl Walk {
         requires room { Room edge_numbers at (leave_edges pen.step self b) }
         ensures { Leaves out.old at pen self b out.new result }
     {
-        let a = self.at;
-        let chain = self.chain;
-        let previous = self.previous;
-        if covered(previous, b) {
-            let ended = chain.finish(out, at, pen, Cap::Round);
-            let begun = ended.chain.start(ended.at, a, Cap::Butt);
-            let next = begun.chain;
-            return Left {
-                chain: next,
+        if covered(self.previous, b) {
+            let ended = self.chain.finish(out, at, pen, Cap::Round);
+            let begun = ended.chain.start(ended.at, self.at, Cap::Butt);
+            Left {
+                chain: begun.chain,
                 closing: Cap::Butt,
                 at: begun.at,
-            };
-        }
-        Left {
-            chain: chain,
-            closing: Cap::Round,
-            at: at,
+            }
+        } else {
+            Left {
+                chain: self.chain,
+                closing: Cap::Round,
+                at,
+            }
         }
     }
 
@@ -274,19 +243,15 @@ impl Walk {
         requires room { Room edge_numbers at (emitted_of pen.step self b) }
         ensures { Strides out.old at pen self b out.new result }
     {
-        let a = self.at;
         let left = self.leave(out, at, pen, b);
-        let chain = left.chain;
-        let closing = left.closing;
-        let s = section(a, b);
-        let stepped = chain.step(out, left.at, pen, s);
-        let next = stepped.chain;
+        let s = section(self.at, b);
+        let stepped = left.chain.step(out, left.at, pen, s);
         Walked {
             walk: Walk {
                 at: b,
-                chain: next,
-                previous: Last::Held(s),
-                closing: closing,
+                chain: stepped.chain,
+                previous: Some(s),
+                closing: left.closing,
             },
             at: stepped.at,
         }
@@ -299,16 +264,13 @@ impl Walk {
         ensures { Strides out.old at pen self b out.new result }
     {
         let left = self.leave(out, at, pen, b);
-        let chain = left.chain;
-        let closing = left.closing;
-        let stepped = chain.thin(left.at);
-        let next = stepped.chain;
+        let stepped = left.chain.thin(left.at);
         Walked {
             walk: Walk {
                 at: b,
-                chain: next,
-                previous: Last::Nothing,
-                closing: closing,
+                chain: stepped.chain,
+                previous: None,
+                closing: left.closing,
             },
             at: stepped.at,
         }
@@ -320,9 +282,7 @@ impl Walk {
         requires room { Room edge_numbers at (emitted_of pen.step self b) }
         ensures { Strides out.old at pen self b out.new result }
     {
-        let a = self.at;
-        let k = kind(a, b);
-        match k {
+        match kind(self.at, b) {
             Kind::Broken => self.broken(out, at, pen, b),
             Kind::Drawn => self.drawn(out, at, pen, b),
             Kind::Thin => self.thin(out, at, pen, b),
@@ -348,13 +308,10 @@ impl Walk {
         requires room { Room edge_numbers at (finish_of t self.chain self.closing) }
         ensures { Runs put edge_numbers out.old at (finish_of t self.chain self.closing) out.new result }
     {
-        let chain = self.chain;
-        let closing = self.closing;
         let pen = Pen {
             step: t,
             folds: false,
         };
-        let ended = chain.finish(out, at, pen, closing);
-        ended.at
+        self.chain.finish(out, at, pen, self.closing).at
     }
 }

@@ -1,7 +1,7 @@
 // Chains of sections, and the walk that makes them step by step; follows builder.rs of src/mesh/int/variable_stroke.
 #![tactic(auto)]
 
-use contacts::{Last, Vertex};
+use contacts::{Section, Vertex};
 use joins::Cap;
 
 pub mod builder;
@@ -11,7 +11,7 @@ pub mod builder;
 pub struct Chain {
     pub start: Vertex,
     pub cap: Cap,
-    pub last: Last,
+    pub last: Option<Section>,
     pub mark: bool,
 }
 
@@ -20,6 +20,6 @@ pub struct Chain {
 pub struct Walk {
     pub at: Vertex,
     pub chain: Chain,
-    pub previous: Last,
+    pub previous: Option<Section>,
     pub closing: Cap,
 }

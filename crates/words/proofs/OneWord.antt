@@ -1,21 +1,18 @@
 -- One word: four bytes in a row, read where they stand, and the number that it is the word of. Assumes nothing.
 use mathlib.Core.Path.{◌≡◌, refl, sym, ap, ◌∙◌}
 use mathlib.Core.List.{List, [], ◌∷◌}
-use Prim.Native.Nat.{ℕ, zero, suc, ◌+◌, ◌-◌, ◌*◌, ◌/◌, ◌%◌, ◌^◌, ◌≤◌, ◌<◌}
-use native.Mathlib.Nat.{zero-add}
+use Prim.Native.Nat.{ℕ, zero, suc, ◌+◌, ◌*◌, ◌/◌, ◌%◌, ◌^◌, ◌≤◌, ◌<◌}
 use native.Mathlib.Numerals.{add-one, add-two, add-three}
 use native.Mathlib.Omega.{arith}
-use borrow.Author.Tests.{lt-ltb, le-ltb}
-use lib.Dec.{T}
-use lib.IntN.{ℤ, pos, negsuc, nat_abs, ◌+ℤ◌, ◌-ℤ◌}
-use lib.Signed.{non_neg}
+use mathlib.Core.Bool.{Bool, true, false}
+use lib.Dec.{ltb}
+use lib.IntN.{ℤ, pos, negsuc}
+use lib.Signed.{mag}
+use Rattle.std.specs.Int.{to_le_bytes}
 use lib.ListN.{length, get_or}
 use mir.Syntax.{w8, w32, w64}
 use mir.Val.{Fits, SFits, to_z, of_z}
-use mir.Facts.{to_z-of_z, to_z_pos}
-use Rattle.whole.specs.Sizes.{Size}
-use Rattle.whole.proofs.Signed.{up, down, add_balance}
-use Rattle.whole.proofs.Sizes.{size_add, size_fits}
+use mir.Facts.{to_z-of_z}
 use Rattle.runs.specs.Runs.{spread, over, Runs, Room, agree}
 use Rattle.runs.proofs.Agreed.{agree_same}
 use Rattle.words.specs.Words.{word_of, number_of, four_bytes, word_from, words_in, word_at}
@@ -36,6 +33,12 @@ pub word_run : {S : Type 0} {f : S → ℕ → ℕ → S} {s₀ s₁ s₂ s₃ s
     → Runs f four_bytes s₀ at (w ∷ []) s₄ (at + 4)
 unfolding spread over four_bytes
 word_run {at = at} w p q r s = record { out = cc (add-one at, add-two at, add-three at); pos = refl }
+
+-- and where bs are the word's bytes, one by one from them
+pub bytes_run : {S : Type 0} {f : S → ℕ → ℕ → S} {s₀ s₁ s₂ s₃ s₄ : S} {at : ℕ} {bs : List ℕ} (w : ℕ) → bs ≡ to_le_bytes w32 w
+    → s₁ ≡ f s₀ at (get_or bs 0 0) → s₂ ≡ f s₁ (at + 1) (get_or bs 1 0) → s₃ ≡ f s₂ (at + 2) (get_or bs 2 0) → s₄ ≡ f s₃ (at + 3) (get_or bs 3 0)
+    → Runs f four_bytes s₀ at (w ∷ []) s₄ (at + 4)
+bytes_run w e p q r s = word_run w (rw e at p) (rw e at q) (rw e at r) (rw e at s)
 
 -- four bytes that make up a word are its bytes
 pub word_bytes : (a b c d w : ℕ) → a < 256 → b < 256 → c < 256 → d < 256 → a + 256 * b + 65536 * c + 16777216 * d ≡ w
@@ -71,41 +74,28 @@ word_here (a ∷ b ∷ c ∷ d ∷ s) (suc i) h =
     let e₃ : 4 * suc i + 3 ≡ suc (suc (suc (suc (4 * i + 3)))) = omega arith in
     rw (e₁, e₂, e₃, e₀) (word_here s i (omega arith))
 
--- ---- the word of a number, from 2 ^ 32 more
+-- ---- the word of a number is its bits, and the number of a word is what they say
 
-pub raised_fits : {z : ℤ} → Size (2 ^ 31) z → SFits w64 (z +ℤ pos (2 ^ 32))
-raised_fits h = size_fits (2 ^ 31 + 2 ^ 32) w64 _ (size_add (2 ^ 31) (2 ^ 32) _ (pos (2 ^ 32)) h (record { size = omega arith })) tt
-
--- w is that
-pub raised_word : (z w : ℤ) → w ≡ z +ℤ pos (2 ^ 32) → nat_abs z ≤ 2 ^ 31 → T (non_neg w) × (nat_abs w < 2 ^ 64) × (nat_abs w % 2 ^ 32 ≡ word_of z)
+narrow_bits : (z : ℤ) → mag z < 2 ^ 31 → of_z w32 z ≡ word_of z
 unfolding word_of
-raised_word (pos n) (pos k) e h = let b = add_balance (pos n) (pos (2 ^ 32)) in (tt, omega (arith, b, ap up e, ap down e), omega (arith, b, ap up e, ap down e))
-raised_word (pos n) (negsuc k) e h = absurd (omega (arith, add_balance (pos n) (pos (2 ^ 32)), ap up e, ap down e))
-raised_word (negsuc n) (pos k) e h = let b = add_balance (negsuc n) (pos (2 ^ 32)) in (tt, omega (arith, b, ap up e, ap down e), omega (arith, b, ap up e, ap down e))
-raised_word (negsuc n) (negsuc k) e h = absurd (omega (arith, add_balance (negsuc n) (pos (2 ^ 32)), ap up e, ap down e))
+narrow_bits (pos n) h = omega arith
+narrow_bits (negsuc n) h = omega arith
 
--- ---- the number of a word
+pub word_bits : {z : ℤ} → SFits w32 z → of_z w32 (to_z w32 (of_z w32 z)) ≡ word_of z
+word_bits {z} h = ap (of_z w32) (to_z-of_z h) ∙ narrow_bits z h.sfits
 
-pub number_low : (w : ℕ) → w < 2147483648 → to_z w32 w ≡ number_of w
+lowest_bits : (z : ℤ) → mag z < 2 ^ 63 → of_z w64 z % 2 ^ 32 ≡ word_of z
+unfolding word_of
+lowest_bits (pos n) h = refl
+lowest_bits (negsuc n) h = omega arith
+
+pub wide_word_bits : {z : ℤ} → SFits w64 z → of_z w64 (to_z w64 (of_z w64 z)) % 2 ^ 32 ≡ word_of z
+wide_word_bits {z} h = ap (λ q. of_z w64 q % 2 ^ 32) (to_z-of_z h) ∙ lowest_bits z h.sfits
+
+pub number_is : (w : ℕ) → to_z w32 w ≡ number_of w
 unfolding number_of
-number_low w h = rw (lt-ltb w (2 ^ 31) h, number_of) refl
-
--- -1 less a number
-less_pos : (k : ℕ) → negsuc 0 -ℤ pos k ≡ negsuc k
-less_pos zero = refl
-less_pos (suc k) = rw (zero-add k)
-
-high_is : (w : ℕ) → 2147483648 ≤ w → w < 2 ^ 32 → negsuc 0 -ℤ to_z w32 (4294967295 - w) ≡ number_of w
-unfolding number_of
-high_is w lo hi =
-    rw (to_z_pos w32 {n = 4294967295 - w} (omega arith), le-ltb w (2 ^ 31) lo, number_of) (less_pos (4294967295 - w))
-
-number_fits : (w : ℕ) → w < 2 ^ 32 → 2147483648 ≤ w → SFits w32 (number_of w)
-unfolding number_of
-number_fits w hi lo = rw (le-ltb w (2 ^ 31) lo, number_of) (record { sfits = omega arith })
-
-pub high_fits : (w : ℕ) → 2147483648 ≤ w → w < 2 ^ 32 → SFits w32 (negsuc 0 -ℤ to_z w32 (4294967295 - w))
-high_fits w lo hi = rw (high_is w lo hi) (number_fits w hi lo)
-
-pub number_high : (w : ℕ) → 2147483648 ≤ w → w < 2 ^ 32 → to_z w32 (of_z w32 (negsuc 0 -ℤ to_z w32 (4294967295 - w))) ≡ number_of w
-number_high w lo hi = to_z-of_z (high_fits w lo hi) ∙ high_is w lo hi
+number_is w = pick (ltb w (2 ^ 31)) refl
+  where
+    pick : (b : Bool) → ltb w (2 ^ 31) ≡ b → to_z w32 w ≡ number_of w
+    pick true e = rw (e, number_of) refl
+    pick false e = rw (e, number_of) (ap negsuc (omega arith))

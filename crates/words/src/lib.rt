@@ -17,15 +17,16 @@ pub fn put_byte(s: &mut [u8], i: usize, b: u8)
     }
 }
 
-// One word, byte by byte, where the room may end within it.
+// One word, byte by byte, where the room may end within it. That no position wraps is a fact of a place and a word, so each call asks for it.
 fn put_each(s: &mut [u8], at: usize, w: u32) -> usize
     requires { Room four_bytes at (w ∷ []) }
     ensures { Runs put four_bytes s.old at (w ∷ []) s.new result }
 {
-    put_byte(s, at, (w % 256) as u8);
-    put_byte(s, at + 1, (w / 256 % 256) as u8);
-    put_byte(s, at + 2, (w / 65536 % 256) as u8);
-    put_byte(s, at + 3, (w / 16777216 % 256) as u8);
+    let [a, b, c, d] = w.to_le_bytes();
+    put_byte(s, at, a);
+    put_byte(s, at + 1, b);
+    put_byte(s, at + 2, c);
+    put_byte(s, at + 3, d);
     at + 4
 }
 
@@ -34,10 +35,11 @@ pub fn place_word(s: &mut [u8], at: usize, w: u32)
     requires { at + 4 ≤ length s.old }
     ensures { Runs put four_bytes s.old at (w ∷ []) s.new (at + 4) }
 {
-    s[at] = (w % 256) as u8;
-    s[at + 1] = (w / 256 % 256) as u8;
-    s[at + 2] = (w / 65536 % 256) as u8;
-    s[at + 3] = (w / 16777216 % 256) as u8;
+    let [a, b, c, d] = w.to_le_bytes();
+    s[at] = a;
+    s[at + 1] = b;
+    s[at + 2] = c;
+    s[at + 3] = d;
 }
 
 // One word. Bytes past the room are not written; the position goes on all the same.
@@ -45,27 +47,23 @@ pub fn put_word(s: &mut [u8], at: usize, w: u32) -> usize
     requires { Room four_bytes at (w ∷ []) }
     ensures { Runs put four_bytes s.old at (w ∷ []) s.new result }
 {
-    if s.len() < at + 4 {
+    let end = at + 4;
+    if s.len() < end {
         return put_each(s, at, w);
     }
     place_word(s, at, w);
-    at + 4
+    end
 }
 
 // One byte more of a store compared: all before `ok` agrees, and b is due at the place `at`.
 pub fn same_byte(s: &[u8], ok: usize, at: usize, b: u8) -> usize
     ensures { result ≡ agree s.now ok at b }
 {
-    if ok != at {
-        return ok;
+    if ok == at && at < s.len() && s[at] == b {
+        ok + 1
+    } else {
+        ok
     }
-    if s.len() <= at {
-        return ok;
-    }
-    if s[at] == b {
-        return ok + 1;
-    }
-    ok
 }
 
 // One word more compared, byte by byte.
@@ -73,17 +71,11 @@ fn same_each(s: &[u8], ok: usize, at: usize, w: u32) -> usize
     requires { Room four_bytes at (w ∷ []) }
     ensures { Runs (agree s.now) four_bytes ok at (w ∷ []) result (at + 4) }
 {
-    let a = same_byte(s, ok, at, (w % 256) as u8);
-    let b = same_byte(s, a, at + 1, (w / 256 % 256) as u8);
-    let c = same_byte(s, b, at + 2, (w / 65536 % 256) as u8);
-    same_byte(s, c, at + 3, (w / 16777216 % 256) as u8)
-}
-
-// The word of four bytes.
-fn word(a: u8, b: u8, c: u8, d: u8) -> u32
-    ensures { result ≡ a + 256 * b + 65536 * c + 16777216 * d }
-{
-    a as u32 + 256 * (b as u32) + 65536 * (c as u32) + 16777216 * (d as u32)
+    let [a, b, c, d] = w.to_le_bytes();
+    let ok = same_byte(s, ok, at, a);
+    let ok = same_byte(s, ok, at + 1, b);
+    let ok = same_byte(s, ok, at + 2, c);
+    same_byte(s, ok, at + 3, d)
 }
 
 // The word that begins at a byte.
@@ -91,7 +83,7 @@ pub fn word_from(s: &[u8], at: usize) -> u32
     requires { at + 4 ≤ length s.now }
     ensures { result ≡ word_from s.now at }
 {
-    word(s[at], s[at + 1], s[at + 2], s[at + 3])
+    u32::from_le_bytes([s[at], s[at + 1], s[at + 2], s[at + 3]])
 }
 
 // One word more compared: at once where all before it agrees and it does.
@@ -100,16 +92,11 @@ pub fn same_word(s: &[u8], ok: usize, at: usize, w: u32) -> usize
     ensures { Runs (agree s.now) four_bytes ok at (w ∷ []) result (at + 4) }
 {
     let end = at + 4;
-    if ok != at {
-        return same_each(s, ok, at, w);
+    if ok == at && end <= s.len() && word_from(s, at) == w {
+        end
+    } else {
+        same_each(s, ok, at, w)
     }
-    if s.len() < end {
-        return same_each(s, ok, at, w);
-    }
-    if word_from(s, at) != w {
-        return same_each(s, ok, at, w);
-    }
-    end
 }
 
 // The i-th word.
@@ -125,23 +112,19 @@ pub fn wide_bits(z: i64) -> u32
     requires { Size (2 ^ 31) z }
     ensures { result ≡ word_of z }
 {
-    ((z + 0x1_0000_0000) as u64 % 0x1_0000_0000) as u32
+    (z.cast_unsigned() % 0x1_0000_0000) as u32
 }
 
 // The word of a number of 32 bits.
 pub fn bits(z: i32) -> u32
     ensures { result ≡ word_of z }
 {
-    wide_bits(z as i64)
+    z.cast_unsigned()
 }
 
 // The number of a word.
 pub fn signed(w: u32) -> i32
     ensures { result ≡ number_of w }
 {
-    if w < 0x8000_0000 {
-        return w as i32;
-    }
-    let k = (0xffff_ffff - w) as i32;
-    -1 - k
+    w.cast_signed()
 }

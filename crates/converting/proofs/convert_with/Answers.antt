@@ -1,15 +1,17 @@
--- `converting::convert_with` meets its contract: a refusal is that of the shared rows; a store that passed them is converted. Assumes nothing.
+-- `converting::convert_with` meets its contract: a refusal is that of the shared rows, or the grade's; else the store is converted, by its form. Assumes nothing.
 use borrow.Author.Rules.{rules}
+use Rattle.heading.proofs.Handed.{handed_with}
 use Rattle.checking.proofs.KnownStore.{passed}
 use Rattle.checking.proofs.StoreRooms.{many_path, many_own}
-use Rattle.converting.proofs.ConvertRows.{convert_refused}
+use Rattle.converting.specs.Converting.{ConvertsOutline}
+use Rattle.converting.proofs.ConvertRows.{convert_refused, convert_undrawn}
 use Rattle.converting.proofs.convert_with.Goals as goal
 
-pub check-checked-requires : goal.check-checked-requires
-check-checked-requires c = (many_path c.args.store.now (search rules), many_own c.args.store.now (search rules))
+pub check-requires : goal.check-requires
+check-requires c = (many_path c.args.store.now (search rules), many_own c.args.store.now (search rules))
 
-pub convert_at-requires : goal.convert_at-requires
-convert_at-requires c = (passed c.in-Holds.is c.check-checked.ensures, search rules, search rules)
+pub returns-in_err-header : goal.returns-in_err-header
+returns-in_err-header c = handed_with (ConvertsOutline _ _) c.from_residual.ensures.1 (convert_refused _ c.in_err-header.was c.check.ensures)
 
-pub returns-in-Refused : goal.returns-in-Refused
-returns-in-Refused c = convert_refused _ c.in-Refused.is c.check-checked.ensures
+pub returns-then-grade-lt2 : goal.returns-then-grade-lt2
+returns-then-grade-lt2 c = convert_undrawn (passed c.in_ok-header.was c.check.ensures) c.then-grade-lt2.either

@@ -4,4 +4,4 @@ use Rattle.difference_walk.proofs.BodyByBody.{total_found}
 use Rattle.difference_walk.proofs.differences.Goals as goal
 
 pub returns : goal.returns
-returns c = record { due = c.differ_bodies-due.ensures.due; found = total_found c.args.grade _ (path_of c.args.path.now) c.args.n c.differ_bodies-due.ensures.found c.differ_bodies-due.ensures.due c.word_at-old.ensures c.total_number-total.ensures }
+returns c = record { due = c.differ_bodies-due.ensures.due; found = total_found c.args.front.now.grade _ (path_of c.args.path.now) c.args.front.now.n c.differ_bodies-due.ensures.found c.differ_bodies-due.ensures.due c.word_at-old.ensures c.total_number.ensures }

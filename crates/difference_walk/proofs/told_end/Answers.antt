@@ -5,12 +5,12 @@ use Rattle.difference_walk.proofs.BodyByBody.{own_edges}
 use Rattle.difference_walk.proofs.told_end.Goals as goal
 
 pub close-numbers-requires : goal.close-numbers-requires
-close-numbers-requires c = record { unit_long = (c.requires.unit_long.0, c.requires.unit_long.1); room = own_room (close_most c.args.t c.args.d.walk) }
+close-numbers-requires c = record { unit_long = (c.requires.unit_long, c.requires.around); room = own_room (close_most c.args.t c.args.d.walk) }
 
 pub told-requires : goal.told-requires
 told-requires c =
     let m = close_most c.args.t c.args.d.walk in
-    (omega (arith, own_inside m c.close-numbers.ensures (omega (arith, m.most, c.requires.unit_long.2))), omega (arith, own_small m c.close-numbers.ensures), c.requires.at_bound.0, c.requires.at_bound.1)
+    (omega (arith, own_inside m c.close-numbers.ensures (omega (arith, m.most, c.requires.own_room))), omega (arith, own_small m c.close-numbers.ensures), c.requires.no_wrap.0, c.requires.no_wrap.1)
 
 pub returns : goal.returns
-returns c = c.told.ensures.each _ (own_edges (close_most c.args.t c.args.d.walk) c.close-numbers.ensures c.requires.unit_long.2)
+returns c = c.told.ensures.each _ (own_edges (close_most c.args.t c.args.d.walk) c.close-numbers.ensures c.requires.own_room)

@@ -1,9 +1,12 @@
 -- `drawing::draw` meets its contract: the rows first, then the path. Assumes nothing.
+use Rattle.std.specs.Prelude.{Err}
+use Rattle.std.proofs.lemmas.Grind.{common_steps}
+use mathlib.Core.Path.{◌≡◌}
+use native.Mathlib.Omega.{arith}
 use Rattle.drawing.proofs.DrawAnswers.{draws_refused}
 use Rattle.drawing.proofs.draw.Goals as goal
 
-pub draw_path-requires : goal.draw_path-requires
-draw_path-requires c = c.check_path-checked.ensures.fits _ c.in-Passed.is
-
-pub returns-in-Refused : goal.returns-in-Refused
-returns-in-Refused c = draws_refused _ _ c.check_path-checked.ensures c.in-Refused.is
+pub returns-in_err-n : goal.returns-in_err-n
+returns-in_err-n c =
+    let e : c.from_residual.result ≡ Err c.in_err-n.field-0.0 = grind (arith, common_steps) in
+    rw e (draws_refused c.args.path.now c.args.out.now c.in_err-n.ensures)

@@ -8,4 +8,4 @@ use Rattle.half_turn.proofs.half_bow.Goals as goal
 
 pub bow_along-requires : goal.bow_along-requires
 unfolding axis_of follows_of rotated_of same_number
-bow_along-requires c = record { turns = c.requires; tabled = tabled _ _ refl refl refl }
+bow_along-requires c = record { turns = c.requires; tabled = tabled _ refl refl }

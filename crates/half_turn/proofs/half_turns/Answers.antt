@@ -8,4 +8,4 @@ use Rattle.half_turn.proofs.half_turns.Goals as goal
 
 pub turns_along-requires : goal.turns_along-requires
 unfolding axis_of follows_of rotated_of same_number
-turns_along-requires c = record { turns = c.requires.turns; room = c.requires.room; tabled = tabled _ _ refl refl refl }
+turns_along-requires c = record { turns = c.requires.turns; room = c.requires.room; tabled = tabled _ refl refl }

@@ -8,11 +8,5 @@ use Rattle.kerb_comparing.proofs.no_bodies.Goals as goal
 pub same_word-a-requires : goal.same_word-a-requires
 same_word-a-requires c = word_room _ (omega (arith, c.requires))
 
-pub same_word-b-requires : goal.same_word-b-requires
-same_word-b-requires c = word_room _ (omega (arith, c.requires))
-
-pub same_word-table-requires : goal.same_word-table-requires
-same_word-table-requires c = word_room _ (omega (arith, c.requires))
-
 pub returns : goal.returns
 returns c = record { table = runs_to (omega arith) (runs_then c.same_word-a.ensures (runs_then (runs_to (omega arith) c.same_word-b.ensures) c.same_word-table.ensures)); bodies = refl; end = refl }

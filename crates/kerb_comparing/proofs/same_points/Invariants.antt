@@ -1,5 +1,5 @@
 -- `kerb_comparing::same_points` meets its contract: what is left of the points is compared on, point by point. Assumes nothing.
-use Prim.Native.Nat.{◌+◌, ◌-◌, ◌*◌, ◌≤◌}
+use Prim.Native.Nat.{◌+◌, ◌*◌, ◌≤◌}
 use lib.ListN.{drop}
 use Rattle.runs.specs.Runs.{spread, agree}
 use Rattle.runs.proofs.Onward.{Onward}
@@ -10,6 +10,3 @@ use Rattle.kerb_comparing.proofs.same_points.Given as goal
 
 abbrev pub invariant-loop-k : goal.invariant-loop-k
 invariant-loop-k l = (l.k ≤ l.n) × Onward (agree l.s) four_bytes 32 32 (spread point_words (kerb_path l.y.radius l.points)) l.ok (32 + 8 * l.k) (spread point_words (drop l.k (kerb_path l.y.radius l.points)))
-
-abbrev pub decreases-loop-k : goal.decreases-loop-k
-decreases-loop-k l = l.n - l.k

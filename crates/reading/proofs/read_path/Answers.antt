@@ -1,13 +1,9 @@
 -- `reading::read_path` meets its contract: the path is written where there is room for it. Assumes nothing.
 use mathlib.Core.Path.{refl}
-use native.Mathlib.Omega.{arith}
 use Rattle.heading.specs.Shows.{lent_width}
-use Rattle.checking.proofs.StoreReads.{header_long, header_few}
+use Rattle.checking.proofs.StoreReads.{header_long}
 use Rattle.reading.proofs.ReadAnswers.{room_told, reads_short, reads_done}
 use Rattle.reading.proofs.read_path.Goals as goal
-
-pub overflow_mul-needed : goal.overflow_mul-needed
-overflow_mul-needed c = omega (arith, header_few c.requires.head c.width.ensures)
 
 pub returns-then-out-needed : goal.returns-then-out-needed
 returns-then-out-needed c = reads_short _ c.requires c.width.ensures refl c.if-out-needed.true

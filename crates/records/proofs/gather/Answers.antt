@@ -4,13 +4,8 @@ use Rattle.records.proofs.Gathered.{gathered_none, gathered_more}
 use Rattle.records.proofs.gather.Goals as goal
 
 pub loop-i-init : goal.loop-i-init
-loop-i-init c = record {
-  in_path = omega arith;
-  holding = gathered_none c.args.numbers.now c.args.m c.args.path.now;
-}
+loop-i-init c = gathered_none c.args.numbers.now c.args.m c.args.path.now
 
 pub loop-i-preserved : goal.loop-i-preserved
-loop-i-preserved c = record {
-  in_path = omega (arith, c.loop-i-test.true);
-  holding = gathered_more c.args.numbers.now c.args.m c.args.path.now c.loop-i.i c.loop-i-test.true (omega (arith, c.loop-i-test.true, c.requires)) c.loop-i.invariant.holding c.put_record.ensures;
-}
+loop-i-preserved c =
+    gathered_more c.args.numbers.now c.args.m c.args.path.now c.loop-i.i (omega arith) (omega arith) c.loop-i.invariant c.put_record.ensures

@@ -3,10 +3,10 @@ use mathlib.Core.Path.{sym, ap}
 use Rattle.reading.specs.Reading.{form_of_read}
 use Rattle.sehmelir.proofs.form_read.Goals as goal
 
-pub returns-in-Vertices : goal.returns-in-Vertices
+pub returns-in-Ok : goal.returns-in-Ok
 unfolding form_of_read
-returns-in-Vertices c = sym (ap form_of_read c.in-Vertices.is)
+returns-in-Ok c = sym (ap form_of_read c.in-Ok.is)
 
-pub returns-in-Refused : goal.returns-in-Refused
+pub returns-in-Err : goal.returns-in-Err
 unfolding form_of_read
-returns-in-Refused c = sym (ap form_of_read c.in-Refused.is)
+returns-in-Err c = sym (ap form_of_read c.in-Err.is)

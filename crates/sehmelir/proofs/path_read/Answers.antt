@@ -3,8 +3,8 @@ use mathlib.Core.Path.{refl}
 use Rattle.sehmelir.proofs.Told.{path_told}
 use Rattle.sehmelir.proofs.path_read.Goals as goal
 
-pub form_numbers-f-requires : goal.form_numbers-f-requires
-form_numbers-f-requires c = rw c.form_read.ensures c.requires
+pub form_numbers-form-requires : goal.form_numbers-form-requires
+form_numbers-form-requires c = rw c.form_read.ensures c.requires
 
 pub returns : goal.returns
-returns c = path_told c.vertices_read-a.ensures c.form_numbers-f.ensures c.form_read.ensures refl refl refl refl refl refl refl
+returns c = path_told c.vertices_read-reply.ensures c.form_numbers-form.ensures c.form_read.ensures refl refl refl refl refl refl refl

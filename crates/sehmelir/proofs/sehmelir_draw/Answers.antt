@@ -3,4 +3,4 @@ use Rattle.sehmelir.proofs.Told.{told_as}
 use Rattle.sehmelir.proofs.sehmelir_draw.Goals as goal
 
 pub returns : goal.returns
-returns c = record { replies = told_as c.draw.ensures.reply c.drawn.ensures; out = c.draw.ensures.out }
+returns c = record { replies = told_as c.draw.ensures.reply c.from.ensures; out = c.draw.ensures.out }

@@ -3,4 +3,4 @@ use Rattle.sehmelir.proofs.Told.{told_as}
 use Rattle.sehmelir.proofs.sehmelir_draw_kerb.Goals as goal
 
 pub returns : goal.returns
-returns c = record { replies = told_as c.draw_kerb.ensures.reply c.drawn.ensures; out = c.draw_kerb.ensures.out }
+returns c = record { replies = told_as c.draw_kerb.ensures.reply c.from.ensures; out = c.draw_kerb.ensures.out }

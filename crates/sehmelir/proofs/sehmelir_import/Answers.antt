@@ -3,4 +3,4 @@ use Rattle.sehmelir.proofs.Told.{told_as}
 use Rattle.sehmelir.proofs.sehmelir_import.Goals as goal
 
 pub returns : goal.returns
-returns c = record { replies = told_as c.import.ensures.reply c.imported.ensures; out = c.import.ensures.out }
+returns c = record { replies = told_as c.import.ensures.reply c.from.ensures; out = c.import.ensures.out }

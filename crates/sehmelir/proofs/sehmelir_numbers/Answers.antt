@@ -3,4 +3,4 @@ use Rattle.sehmelir.proofs.Told.{told_as}
 use Rattle.sehmelir.proofs.sehmelir_numbers.Goals as goal
 
 pub returns : goal.returns
-returns c = record { replies = told_as c.numbers.ensures.reply c.posts_read.ensures; out = c.numbers.ensures.out }
+returns c = record { replies = told_as c.numbers.ensures.reply c.from.ensures; out = c.numbers.ensures.out }

@@ -3,4 +3,4 @@ use Rattle.sehmelir.proofs.Told.{told_as}
 use Rattle.sehmelir.proofs.sehmelir_reach.Goals as goal
 
 pub returns : goal.returns
-returns c = record { replies = told_as c.reach.ensures.reply c.reached.ensures }
+returns c = record { replies = told_as c.reach.ensures.reply c.from.ensures }

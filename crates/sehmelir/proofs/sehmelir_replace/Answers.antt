@@ -5,4 +5,4 @@ use Rattle.sehmelir.proofs.Told.{replaced_told}
 use Rattle.sehmelir.proofs.sehmelir_replace.Goals as goal
 
 pub returns : goal.returns
-returns c = replaced_told (to_z-of_z {w = w32} c.ranges.x) (to_z-of_z {w = w32} c.ranges.y) (to_z-of_z {w = w32} c.ranges.radius) c.replace.ensures c.replaced.ensures
+returns c = replaced_told (to_z-of_z {w = w32} c.ranges.x) (to_z-of_z {w = w32} c.ranges.y) (to_z-of_z {w = w32} c.ranges.radius) c.replace.ensures c.from.ensures

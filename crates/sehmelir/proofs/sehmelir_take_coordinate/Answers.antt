@@ -3,4 +3,4 @@ use Rattle.sehmelir.proofs.Told.{tells_as}
 use Rattle.sehmelir.proofs.sehmelir_take_coordinate.Goals as goal
 
 pub returns : goal.returns
-returns c = tells_as c.coordinate.ensures c.float_taken.ensures
+returns c = tells_as c.coordinate.ensures c.from.ensures

@@ -4,14 +4,14 @@ use Rattle.reading.specs.Reading.{reply_of_read, grade_of_read}
 use Rattle.sehmelir.proofs.Told.{graded_as}
 use Rattle.sehmelir.proofs.vertices_read.Goals as goal
 
-pub returns-in-Vertices : goal.returns-in-Vertices
+pub returns-in-Ok : goal.returns-in-Ok
 unfolding reply_of_read grade_of_read
-returns-in-Vertices c =
+returns-in-Ok c =
     graded_as
-    (ap reply_of_read (sym c.in-Vertices.is))
-    (ap grade_of_read (sym c.in-Vertices.is))
+    (ap reply_of_read (sym c.in-Ok.is))
+    (ap grade_of_read (sym c.in-Ok.is))
     (record { reply = refl; number = refl; grade = refl })
 
-pub returns-in-Refused : goal.returns-in-Refused
+pub returns-in-Err : goal.returns-in-Err
 unfolding reply_of_read grade_of_read
-returns-in-Refused c = graded_as (ap reply_of_read (sym c.in-Refused.is)) (ap grade_of_read (sym c.in-Refused.is)) c.refusal.ensures
+returns-in-Err c = graded_as (ap reply_of_read (sym c.in-Err.is)) (ap grade_of_read (sym c.in-Err.is)) c.from.ensures

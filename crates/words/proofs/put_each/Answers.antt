@@ -1,6 +1,6 @@
 -- `words::put_each` meets its contract: the four bytes are put in their order. Assumes nothing.
 use native.Mathlib.Omega.{arith}
-use Rattle.words.proofs.OneWord.{room_word, word_run}
+use Rattle.words.proofs.OneWord.{room_word, bytes_run}
 use Rattle.words.proofs.put_each.Goals as goal
 
 pub overflow_add-at : goal.overflow_add-at
@@ -16,4 +16,4 @@ pub overflow_add-result : goal.overflow_add-result
 overflow_add-result c = omega (arith, room_word _ c.requires)
 
 pub returns : goal.returns
-returns c = word_run c.args.w c.put_byte.ensures c.put_byte-2.ensures c.put_byte-3.ensures c.put_byte-4.ensures
+returns c = bytes_run c.args.w c.to_le_bytes.ensures c.put_byte.ensures c.put_byte-2.ensures c.put_byte-3.ensures c.put_byte-4.ensures

@@ -3,5 +3,5 @@ use native.Mathlib.Omega.{arith}
 use Rattle.words.proofs.OneWord.{room_word}
 use Rattle.words.proofs.put_word.Goals as goal
 
-pub overflow_add-at : goal.overflow_add-at
-overflow_add-at c = omega (arith, room_word _ c.requires)
+pub overflow_add-end : goal.overflow_add-end
+overflow_add-end c = omega (arith, room_word _ c.requires)

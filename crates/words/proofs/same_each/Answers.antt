@@ -1,6 +1,6 @@
 -- `words::same_each` meets its contract: the four bytes are compared in their order. Assumes nothing.
 use native.Mathlib.Omega.{arith}
-use Rattle.words.proofs.OneWord.{room_word, word_run}
+use Rattle.words.proofs.OneWord.{room_word, bytes_run}
 use Rattle.words.proofs.same_each.Goals as goal
 
 pub overflow_add-at : goal.overflow_add-at
@@ -13,4 +13,4 @@ pub overflow_add-at-3 : goal.overflow_add-at-3
 overflow_add-at-3 c = omega (arith, room_word _ c.requires)
 
 pub returns : goal.returns
-returns c = word_run c.args.w c.same_byte-a.ensures c.same_byte-b.ensures c.same_byte-c.ensures c.same_byte.ensures
+returns c = bytes_run c.args.w c.to_le_bytes.ensures c.same_byte-ok.ensures c.same_byte-ok-2.ensures c.same_byte-ok-3.ensures c.same_byte.ensures

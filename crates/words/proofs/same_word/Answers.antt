@@ -6,5 +6,5 @@ use Rattle.words.proofs.same_word.Goals as goal
 pub overflow_add-end : goal.overflow_add-end
 overflow_add-end c = omega (arith, room_word _ c.requires)
 
-pub returns : goal.returns
-returns c = word_same c.args.s.now (omega arith) (omega (arith, c.if-s-end.false)) c.shared_slice_known-1.given (omega (arith, c.word_from.ensures, c.if-word_from-w.false))
+pub returns-then-word_from-w : goal.returns-then-word_from-w
+returns-then-word_from-w c = word_same c.args.s.now (omega arith) (omega arith) c.type_inv.s (omega arith)

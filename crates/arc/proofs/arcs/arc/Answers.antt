@@ -135,7 +135,7 @@ pub turns-requires : goal.turns-requires
 turns-requires c =
     let h = kept (goal.at.turns-requires c).After-rounded-radius in record { turns = h.0; unit_long = (h.1, h.2); room = room_as (turned_arc (goal.at.turns-requires c).Else-full (radius (goal.at.turns-requires c).After-rounded-radius)) c.requires.room }
 
-pub returns : goal.returns
-returns c =
-    let h = kept (goal.at.returns c).After-rounded-radius in
-    lays_as (turned_arc (goal.at.returns c).Else-full (radius (goal.at.returns c).After-rounded-radius)) (lays_runs (turns_reach 1536 _ _ _ h.0 h.1 h.2) c.turns.ensures)
+pub returns-else-pen : goal.returns-else-pen
+returns-else-pen c =
+    let h = kept (goal.at.returns-else-pen c).After-rounded-radius in
+    lays_as (turned_arc (goal.at.returns-else-pen c).Else-full (radius (goal.at.returns-else-pen c).After-rounded-radius)) (lays_runs (turns_reach 1536 _ _ _ h.0 h.1 h.2) c.turns.ensures)

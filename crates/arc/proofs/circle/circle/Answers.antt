@@ -14,5 +14,5 @@ returns-then-finest c = lays_as (circle_bits _ _ c.requires.unit_long.2) c.fine_
 pub turned_circle-requires : goal.turned_circle-requires
 turned_circle-requires c = let h = c.requires.unit_long in record { unit_long = (h.0, h.1, radius_told_lem h.2); room = room_as (circle_bits _ _ h.2) c.requires.room }
 
-pub returns : goal.returns
-returns c = lays_as (circle_bits _ _ c.requires.unit_long.2) c.turned_circle.ensures
+pub returns-else-finest : goal.returns-else-finest
+returns-else-finest c = lays_as (circle_bits _ _ c.requires.unit_long.2) c.turned_circle.ensures

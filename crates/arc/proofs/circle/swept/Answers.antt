@@ -36,7 +36,7 @@ pub turns-requires : goal.turns-requires
 turns-requires c =
     let h = kept (goal.at.turns-requires c).Start in record { turns = h.0; unit_long = (h.1, h.2); room = room_as (turned (goal.at.turns-requires c).Start) c.requires.room }
 
-pub returns : goal.returns
-returns c =
-    let h = kept (goal.at.returns c).Start in
-    lays_as (turned (goal.at.returns c).Start) (lays_runs (turns_reach 1536 _ _ _ h.0 h.1 h.2) c.turns.ensures)
+pub returns-else-pen : goal.returns-else-pen
+returns-else-pen c =
+    let h = kept (goal.at.returns-else-pen c).Start in
+    lays_as (turned (goal.at.returns-else-pen c).Start) (lays_runs (turns_reach 1536 _ _ _ h.0 h.1 h.2) c.turns.ensures)

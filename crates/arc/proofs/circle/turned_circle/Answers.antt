@@ -69,5 +69,5 @@ pub swept-requires : goal.swept-requires
 swept-requires c =
     let h = c.requires.unit_long in record { unit_long = (h.0, h.1, radius_told_lem h.2, west (goal.at.swept-requires c).After-west-w, east (goal.at.swept-requires c).After-west-w); unit_long_2 = (westward_unit, eastward_unit, westward (goal.at.swept-requires c).After-west-w, eastward (goal.at.swept-requires c).After-west-w); room = room_past _ c.swept-n.ensures (room_as (halves (goal.at.swept-requires c).After-west-w) c.requires.room) }
 
-pub returns : goal.returns
-returns c = lays_as (halves (goal.at.returns c).After-west-w) (lays_then c.swept-n.ensures c.swept.ensures)
+pub returns-else-not-pen : goal.returns-else-not-pen
+returns-else-not-pen c = lays_as (halves (goal.at.returns-else-not-pen c).After-west-w) (lays_then c.swept-n.ensures c.swept.ensures)

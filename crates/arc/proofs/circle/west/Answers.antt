@@ -1,13 +1,10 @@
 -- `arc::circle::west` meets its contract: within the limits the difference fits. Assumes nothing.
-use Rattle.plane.proofs.Products.{small_fits, small_back}
-use Rattle.turning.proofs.Limits.{minus_small, west_back}
+use mathlib.Core.Path.{refl}
+use Rattle.turning.proofs.Limits.{west_fits, west_back}
 use Rattle.arc.proofs.circle.west.Goals as goal
 
-pub overflow_sub-radius : goal.overflow_sub-radius
-overflow_sub-radius c = small_fits (minus_small c.requires.1)
-
-pub moved-requires : goal.moved-requires
-moved-requires c = (small_back c.requires.0.x, small_back (minus_small c.requires.1))
+pub overflow_sub-result : goal.overflow_sub-result
+overflow_sub-result c = west_fits c.requires.0.x c.requires.1
 
 pub returns : goal.returns
-returns c = west_back _ _ c.requires.0 c.requires.1 c.moved.ensures
+returns c = west_back _ _ c.requires.0 c.requires.1 refl

@@ -71,9 +71,9 @@ half_turns-requires c =
     let i = c.east-e.ensures in
     let j = c.west-w.ensures in record { turns = (second_turns _ _ _ h.0 h.1 h.2 m i j, west_near _ _ _ h.0 h.1 h.2 m i j, h.0, refl); room = room_then _ c.half_turns-n.ensures (room_as (fine_halves _ _ _ h.0 h.1 h.2 m i j) c.requires.room) }
 
-pub returns : goal.returns
+pub returns-else-out-at : goal.returns-else-out-at
 unfolding axis_of
-returns c =
+returns-else-out-at c =
     let h = c.requires.step_value in
     let whole = runs_as (fine_halves _ _ _ h.0 h.1 h.2 c.if-radius-le1.false c.east-e.ensures c.west-w.ensures) (runs_then c.half_turns-n.ensures c.half_turns.ensures) in
     lays_runs (circle_reach _ _ _ (step_unit 8 h.0) h.1 h.2) whole

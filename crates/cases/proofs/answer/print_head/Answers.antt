@@ -2,14 +2,14 @@
 use Rattle.lines.proofs.Growing.{grows_then}
 use Rattle.cases.proofs.answer.print_head.Goals as goal
 
-pub returns-in_err-spaced-2 : goal.returns-in_err-spaced-2
-returns-in_err-spaced-2 g c = grows_then c.spaced.ensures c.spaced-2.ensures
+pub returns-in_err-unsigned : goal.returns-in_err-unsigned
+returns-in_err-unsigned g c = grows_then c.loop-number.invariant c.unsigned.ensures.grows
 
-pub returns-in_err-spaced-3 : goal.returns-in_err-spaced-3
-returns-in_err-spaced-3 g c = grows_then (grows_then c.spaced.ensures c.spaced-2.ensures) c.spaced-3.ensures
+pub returns-in_err-space : goal.returns-in_err-space
+returns-in_err-space g c = grows_then (grows_then c.loop-number.invariant c.unsigned.ensures.grows) c.space.ensures.grows
 
-pub returns-in_err-spaced-4 : goal.returns-in_err-spaced-4
-returns-in_err-spaced-4 g c = grows_then (grows_then (grows_then c.spaced.ensures c.spaced-2.ensures) c.spaced-3.ensures) c.spaced-4.ensures
+pub loop-number-preserved : goal.loop-number-preserved
+loop-number-preserved g c = grows_then (grows_then c.loop-number.invariant c.unsigned.ensures.grows) c.space.ensures.grows
 
 pub returns : goal.returns
-returns g c = grows_then (grows_then (grows_then (grows_then c.spaced.ensures c.spaced-2.ensures) c.spaced-3.ensures) c.spaced-4.ensures) c.unsigned.ensures.grows
+returns g c = grows_then c.loop-number.invariant c.unsigned-2.ensures.grows

@@ -27,5 +27,5 @@ loop-count-preserved g c =
     let l = c.loop-count in
     let i = l.invariant in
     let fits = c.in_ok-more.ensures.bound.0 in
-    let more = behind_more c.args.filled l.count _ c.in_ok-more.more l.buffer c.read.new.buf i.0 i.1 fits in
-    (search rules, search rules, take-put_mid_below _ _ _ _ _ i.0 i.1 ∙ i.2, subst (Consumes _ _) (sym more) (Consumes-trans _ _ _ _ _ i.3 c.in_ok-more.ensures.bytes.0))
+    let more = behind_more c.args.filled l.count _ c.in_ok-more.more l.buffer c.read_some.new.buffer i.0 i.1 fits in
+    (search rules, search rules, take-put_mid_below _ _ _ _ _ i.0 i.1 ∙ i.2, subst (Consumes _ _) (sym more) (Consumes-trans _ _ _ _ _ i.3 c.in_ok-more.ensures.read))

@@ -9,14 +9,14 @@ use Rattle.checking.proofs.rests.check_rest.Goals as goal
 pub show_path-requires : goal.show_path-requires
 show_path-requires c = (header_long c.requires.0, path_enough c.requires.0 refl c.requires.1)
 
-pub overflow_mul-e : goal.overflow_mul-e
-overflow_mul-e c = omega (arith, header_few c.requires.0 c.width.ensures)
+pub overflow_mul-shown : goal.overflow_mul-shown
+overflow_mul-shown c = omega (arith, header_few c.requires.0 c.width.ensures)
 
 pub slice_bounds-check_shown-end : goal.slice_bounds-check_shown-end
 slice_bounds-check_shown-end c = omega (arith, path_enough c.requires.0 c.width.ensures c.requires.1, written-length c.show_path.ensures)
 
 pub check_shown-requires : goal.check_shown-requires
-check_shown-requires c = (c.requires.0, shown_lent c.requires.0 (path_enough c.requires.0 refl c.requires.1) c.width.ensures c.show_path.ensures, c.requires.2)
+check_shown-requires c = record { head = c.requires.0; path = shown_lent c.requires.0 (path_enough c.requires.0 refl c.requires.1) c.width.ensures c.show_path.ensures; own = c.requires.2 }
 
 pub returns : goal.returns
 returns c = record { says = c.check_shown.ensures; path = shown_front c.requires.0 (path_enough c.requires.0 refl c.requires.1) c.width.ensures c.show_path.ensures }

@@ -1,12 +1,9 @@
--- `chunk_table::damage::strung` meets its contract: whoever finds what is left strung has found all so. Assumes nothing.
+-- `chunk_table::damage::strung` meets its contract: what is left is strung from where the last one ends exactly if all are. Assumes nothing.
 use mathlib.Core.Path.{◌≡◌}
-use Prim.Native.Nat.{◌≤◌, ◌-◌}
-use lib.ListN.{take, drop}
+use lib.ListN.{drop}
 use Rattle.chunk_table.specs.Orders.{strung_in}
+use Rattle.chunk_table.specs.Tables.{front_in}
 use Rattle.chunk_table.proofs.damage.strung.Given as goal
 
-abbrev pub invariant-loop-k : goal.invariant-loop-k
-invariant-loop-k l = (l.k ≤ l.m) × (strung_in l.c (drop l.k (take l.m l.order)) l.at ≡ strung_in l.c (take l.m l.order) l.front)
-
-abbrev pub decreases-loop-k : goal.decreases-loop-k
-decreases-loop-k l = l.m - l.k
+abbrev pub invariant-loop-i : goal.invariant-loop-i
+invariant-loop-i l = strung_in l.table.bytes.now (drop l.i-index l.order) l.at ≡ strung_in l.table.bytes.now l.order (front_in l.table.bytes.now)

@@ -1,47 +1,26 @@
--- `chunk_table::damage::twice` meets its contract: whoever finds one key twice among what is left has found it among all. Assumes nothing.
-use native.Mathlib.Omega.{arith}
-use mathlib.Core.Path.{refl, sym, ap, ◌∙◌}
-use Prim.Native.Nat.{◌-◌}
-use lib.ListN.{get_or}
-use Rattle.chunk_table.proofs.Checked.{twice_here, twice_next, twice_last}
+-- `chunk_table::damage::twice` meets its contract: what is left has a key twice, behind the last one, exactly if all have. Assumes nothing.
+use mathlib.Core.Path.{refl, sym, ◌∙◌}
+use Rattle.chunk_table.proofs.Checked.{behind_entry, twice_begun, twice_none, twice_here, twice_next, twice_last}
 use Rattle.chunk_table.proofs.Standing.{rest_next, rest_none}
 use Rattle.chunk_table.proofs.damage.twice.Goals as goal
 
-pub loop-k-init : goal.loop-k-init
-loop-k-init c = (omega arith, omega arith, refl)
+pub returns-in_default : goal.returns-in_default
+returns-in_default c = twice_none _ _ c.in_default.len_below
 
-pub overflow_sub-i : goal.overflow_sub-i
-overflow_sub-i c = omega arith
+pub loop-i-init : goal.loop-i-init
+loop-i-init c = record { entry = c.requires.entries 0 c.in-len1-up.len_at_least; left = twice_begun _ _ c.in-len1-up.len_at_least }
 
-pub offset_bounds-order-k : goal.offset_bounds-order-k
-offset_bounds-order-k c = omega (arith, c.requires.1.few)
+pub word-requires-in-loop-i : goal.word-requires-in-loop-i
+word-requires-in-loop-i c = behind_entry _ c.requires _ c.loop-i-test.true
 
-pub bounds-order-k : goal.bounds-order-k
-bounds-order-k c = omega (arith, c.requires.1.held)
+pub returns-then-word : goal.returns-then-word
+returns-then-word c = twice_here _ _ c.loop-i.invariant.left (rest_next _ _ c.loop-i-test.true) (sym c.word.ensures.0 ∙ c.if-word.true ∙ c.word-in-loop-i.ensures.0)
 
-pub offset_bounds-order-k-in-loop-k : goal.offset_bounds-order-k-in-loop-k
-offset_bounds-order-k-in-loop-k c = omega (arith, c.requires.1.few)
-
-pub bounds-order-k-in-loop-k : goal.bounds-order-k-in-loop-k
-bounds-order-k-in-loop-k c = omega (arith, c.requires.1.held)
-
-pub key_at-requires : goal.key_at-requires
-key_at-requires c = omega (arith, c.requires.0, c.requires.1.entries (c.loop-k.k - 1) (omega arith))
-
-pub key_at-requires-in-loop-k : goal.key_at-requires-in-loop-k
-key_at-requires-in-loop-k c = omega (arith, c.requires.0, c.requires.1.entries c.loop-k.k c.loop-k-test.true)
-
-pub returns-then-key_at : goal.returns-then-key_at
-returns-then-key_at c = twice_here _ _ c.loop-k.invariant.2 (rest_next _ _ _ c.requires.1.held c.loop-k-test.true) (sym c.key_at.ensures ∙ c.if-key_at.true ∙ c.key_at-in-loop-k.ensures)
-
-pub overflow_add-k : goal.overflow_add-k
-overflow_add-k c = omega (arith, c.requires.1.few, c.loop-k-test.true)
-
-pub loop-k-smaller : goal.loop-k-smaller
-loop-k-smaller c = omega (arith, c.loop-k-test.true)
-
-pub loop-k-preserved : goal.loop-k-preserved
-loop-k-preserved c = (omega arith, omega (arith, c.loop-k-test.true), twice_next _ _ c.loop-k.invariant.2 (rest_next _ _ _ c.requires.1.held c.loop-k-test.true) (ap (λ q. get_or c.args.order.now q 0) (omega arith)) (λ e. c.if-key_at.false (c.key_at.ensures ∙ e ∙ sym c.key_at-in-loop-k.ensures)))
+pub loop-i-preserved : goal.loop-i-preserved
+loop-i-preserved c = record {
+  entry = behind_entry _ c.requires _ c.loop-i-test.true;
+  left = twice_next _ _ c.loop-i.invariant.left (rest_next _ _ c.loop-i-test.true) refl (λ e. c.if-word.false (c.word.ensures.0 ∙ e ∙ sym c.word-in-loop-i.ensures.0));
+}
 
 pub returns : goal.returns
-returns c = twice_last _ _ c.loop-k.invariant.2 (rest_none _ _ _ c.requires.1.held c.loop-k-test.false)
+returns c = twice_last _ _ c.loop-i.invariant.left (rest_none _ _ c.loop-i-test.false)

@@ -1,12 +1,12 @@
--- `chunk_table::damage::twice` meets its contract: whoever finds one key twice among what is left has found it among all. Assumes nothing.
+-- `chunk_table::damage::twice` meets its contract: what is left has a key twice, behind the last one, exactly if all have. Assumes nothing.
 use mathlib.Core.Path.{◌≡◌}
-use Prim.Native.Nat.{◌≤◌, ◌-◌}
-use lib.ListN.{get_or, take, drop}
-use Rattle.chunk_table.specs.Orders.{twice_from}
+use Prim.Native.Nat.{◌<◌}
+use lib.ListN.{drop}
+use Rattle.chunk_table.specs.Orders.{twice_from, twice_in}
 use Rattle.chunk_table.proofs.damage.twice.Given as goal
 
-abbrev pub invariant-loop-k : goal.invariant-loop-k
-invariant-loop-k l = (1 ≤ l.k) × (l.k ≤ l.m) × (twice_from l.c (get_or l.order (l.k - 1) 0) (drop l.k (take l.m l.order)) ≡ twice_from l.c (get_or l.order 0 0) (drop 1 (take l.m l.order)))
-
-abbrev pub decreases-loop-k : goal.decreases-loop-k
-decreases-loop-k l = l.m - l.k
+abbrev pub invariant-loop-i : goal.invariant-loop-i
+invariant-loop-i l = record {
+  entry : l.last < l.table.entries;
+  left : twice_from l.table.bytes.now l.last (drop l.i-index l.rest) ≡ twice_in l.table.bytes.now l.order;
+}

@@ -1,28 +1,13 @@
--- `chunks::bytes::clear_bytes` meets its contract: after j turns j zeros are laid. Assumes nothing.
+-- `chunks::bytes::clear_bytes` meets its contract: the part is filled with zeros. Assumes nothing.
+use mathlib.Core.Path.{ap, ◌∙◌}
+use Prim.Native.Nat.{ℕ, ◌+◌, ◌-◌}
 use native.Mathlib.Omega.{arith}
-use Rattle.chunks.proofs.Laid.{laying_start, laying_zero, laying_zeros}
+use lib.ListN.{replicate, length-replicate}
+use Rattle.chunks.proofs.Laid.{laid_part, part_length_lem}
 use Rattle.chunks.proofs.bytes.clear_bytes.Goals as goal
 
-pub loop-j-init : goal.loop-j-init
-loop-j-init c = (omega arith, laying_start _ _ _)
-
-pub overflow_add-s : goal.overflow_add-s
-overflow_add-s c = omega (arith, c.requires)
-
-pub bounds-s-at : goal.bounds-s-at
-bounds-s-at c = omega (arith, c.requires, c.loop-j.invariant.1.long)
-
-pub overflow_add-j : goal.overflow_add-j
-overflow_add-j c = omega arith
-
-pub loop-j-smaller : goal.loop-j-smaller
-loop-j-smaller c = omega arith
-
-pub loop-j-preserved : goal.loop-j-preserved
-loop-j-preserved c = (omega arith, laying_zero c.loop-j.invariant.1 c.loop-j-test.true)
-
-pub shape_of-s : goal.shape_of-s
-shape_of-s c = c.loop-j.invariant.1.long
-
 pub returns : goal.returns
-returns c = laying_zeros c.loop-j.invariant.1 c.loop-j-test.false
+returns c =
+    laid_part c.args.s.now c.args.at (c.args.at + c.args.n - c.args.at)
+    (c.fill.ensures.after (λ y h. h) ∙ ap (λ q. replicate q 0) (part_length_lem c.args.s.now c.args.at (c.args.at + c.args.n - c.args.at) (omega arith) ∙ omega arith))
+    (omega (arith, length-replicate {A = ℕ} c.args.n 0)) (omega arith)

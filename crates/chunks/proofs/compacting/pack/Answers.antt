@@ -1,40 +1,25 @@
--- `chunks::compacting::pack` meets its contract: after k turns the first k outlines are moved, and the rest stands as it was. Assumes nothing.
+-- `chunks::compacting::pack` meets its contract: the outlines before i are moved. Assumes nothing.
 use native.Mathlib.Omega.{arith}
-use Rattle.chunks.proofs.Packed.{packing_start, packing_length, packing_entry, packing_below, packing_inside, packing_step, packing_done}
+use Rattle.chunks.proofs.Packed.{packing_start, packing_entry, packing_below, packing_inside, packing_step, packing_done}
 use Rattle.chunks.proofs.compacting.pack.Goals as goal
 
-pub loop-k-init : goal.loop-k-init
-loop-k-init c = (omega arith, packing_start _ c.requires.1)
+pub loop-i-init : goal.loop-i-init
+loop-i-init c = packing_start _ c.requires.front
 
-pub offset_bounds-order-k : goal.offset_bounds-order-k
-offset_bounds-order-k c = omega (arith, c.requires.0.few)
+pub word_of-offset-requires : goal.word_of-offset-requires
+word_of-offset-requires c = packing_entry c.requires.sorted c.loop-i.invariant c.loop-i-test.true
 
-pub bounds-order-k : goal.bounds-order-k
-bounds-order-k c = omega (arith, c.requires.0.held)
-
-pub offset_at-offset-requires : goal.offset_at-offset-requires
-offset_at-offset-requires c = packing_entry c.requires.0 c.loop-k.invariant.1 c.loop-k-test.true
-
-pub size_at-size-requires : goal.size_at-size-requires
-size_at-size-requires c = packing_entry c.requires.0 c.loop-k.invariant.1 c.loop-k-test.true
+pub word_of-size-requires : goal.word_of-size-requires
+word_of-size-requires c = packing_entry c.requires.sorted c.loop-i.invariant c.loop-i-test.true
 
 pub slide_bytes-requires : goal.slide_bytes-requires
-slide_bytes-requires c = (omega (arith, packing_below c.requires.0 c.loop-k.invariant.1 c.loop-k-test.true, c.offset_at-offset.ensures.0), omega (arith, packing_inside c.requires.0 c.loop-k.invariant.1 c.loop-k-test.true, c.offset_at-offset.ensures.0, c.size_at-size.ensures.0))
+slide_bytes-requires c = (omega (arith, packing_below c.requires.sorted c.loop-i.invariant c.loop-i-test.true, c.word_of-offset.ensures.0), omega (arith, packing_inside c.requires.sorted c.loop-i.invariant c.loop-i-test.true, c.word_of-offset.ensures.0, c.word_of-size.ensures.0))
 
 pub overflow_add-at : goal.overflow_add-at
-overflow_add-at c = omega (arith, packing_below c.requires.0 c.loop-k.invariant.1 c.loop-k-test.true, c.offset_at-offset.ensures, c.size_at-size.ensures.1)
+overflow_add-at c = omega (arith, packing_below c.requires.sorted c.loop-i.invariant c.loop-i-test.true, c.word_of-offset.ensures, c.word_of-size.ensures.1)
 
-pub overflow_add-k : goal.overflow_add-k
-overflow_add-k c = omega (arith, c.requires.0.few, c.loop-k-test.true)
-
-pub loop-k-smaller : goal.loop-k-smaller
-loop-k-smaller c = omega (arith, c.loop-k-test.true)
-
-pub loop-k-preserved : goal.loop-k-preserved
-loop-k-preserved c = (omega (arith, c.loop-k-test.true), packing_step c.requires.0 c.loop-k.invariant.1 c.loop-k-test.true c.offset_at-offset.ensures.0 c.size_at-size.ensures.0 c.slide_bytes.ensures)
-
-pub shape_of-c : goal.shape_of-c
-shape_of-c c = packing_length c.requires.0 c.loop-k.invariant.1
+pub loop-i-preserved : goal.loop-i-preserved
+loop-i-preserved c = packing_step c.requires.sorted c.loop-i.invariant c.loop-i-test.true c.word_of-offset.ensures.0 c.word_of-size.ensures.0 c.slide_bytes.ensures
 
 pub returns : goal.returns
-returns c = packing_done c.requires.0 c.loop-k.invariant.1 c.loop-k-test.false
+returns c = packing_done c.requires.sorted c.loop-i.invariant c.loop-i-test.false

@@ -1,12 +1,9 @@
--- `chunks::putting::packed_end` meets its contract: whoever adds what is left has added all. Assumes nothing.
+-- `chunks::putting::packed_end` meets its contract: the rest ends, from where those before i end, where all end. Assumes nothing.
 use mathlib.Core.Path.{◌≡◌}
-use Prim.Native.Nat.{◌≤◌, ◌-◌}
-use lib.ListN.{take, drop}
+use lib.ListN.{drop}
+use Rattle.chunk_table.specs.Tables.{front_in}
 use Rattle.chunks.specs.Chunks.{end_from}
 use Rattle.chunks.proofs.putting.packed_end.Given as goal
 
-abbrev pub invariant-loop-k : goal.invariant-loop-k
-invariant-loop-k l = (l.k ≤ l.m) × (end_from l.c (drop l.k (take l.m l.order)) l.at ≡ end_from l.c (take l.m l.order) l.front)
-
-abbrev pub decreases-loop-k : goal.decreases-loop-k
-decreases-loop-k l = l.m - l.k
+abbrev pub invariant-loop-i : goal.invariant-loop-i
+invariant-loop-i l = end_from l.table.bytes.now (drop l.i-index l.order) l.end ≡ end_from l.table.bytes.now l.order (front_in l.table.bytes.now)

@@ -1,4 +1,4 @@
--- `chunks::putting::put_at` meets its contract: the outline, and the three words of its entry one behind another. Assumes nothing.
+-- `chunks::putting::put_at` meets its contract: the outline, and the three words of its entry. Assumes nothing.
 use Rattle.chunks.proofs.Laid.{word_put}
 use Rattle.chunks.proofs.Placed.{outlined}
 use Rattle.chunks.proofs.putting.put_at.Goals as goal

@@ -2,7 +2,7 @@
 use mathlib.Core.Path.{◌≡◌}
 use Rattle.outline.specs.Stores.{posts_of}
 use Rattle.outline.specs.declared.Form.TheVariants.{Stroke}
-use Prim.Native.Nat.{◌-◌, ◌≤◌}
+use Prim.Native.Nat.{◌≤◌}
 use lib.ListN.{length}
 use Rattle.paths.specs.Paths.{path_of}
 use Rattle.comparing.proofs.Comparisons.{Going}
@@ -10,6 +10,3 @@ use Rattle.comparing.proofs.compare.compare.Given as goal
 
 abbrev pub invariant-loop-k : goal.invariant-loop-k
 invariant-loop-k l = (l.k ≤ l.n) × (length l.own ≡ length l.initial.own) × Going l.edition l.grade l.s (posts_of (Stroke l.edition) l.n l.s) (path_of l.path) l.base l.k l.c
-
-abbrev pub decreases-loop-k : goal.decreases-loop-k
-decreases-loop-k l = l.n - l.k

@@ -3,11 +3,8 @@ use native.Mathlib.Omega.{arith}
 use Rattle.runs.proofs.Laws.{runs_to}
 use Rattle.words.proofs.OneWord.{word_room}
 use Rattle.outline.proofs.FormLengths.{entry_most}
-use Rattle.outline.proofs.Parts.{post_bytes, coordinate_fits, radius_size, entry_run}
+use Rattle.outline.proofs.Parts.{post_bytes, entry_run}
 use Rattle.comparing.proofs.compare.same_entry.Goals as goal
-
-pub wide_bits-requires : goal.wide_bits-requires
-wide_bits-requires c = coordinate_fits c.requires.inside.x
 
 pub same_word-a-requires : goal.same_word-a-requires
 same_word-a-requires c = word_room _ (omega (arith, c.requires.edition_bound, (entry_most c.args.edition).0))
@@ -15,17 +12,11 @@ same_word-a-requires c = word_room _ (omega (arith, c.requires.edition_bound, (e
 pub overflow_add-at : goal.overflow_add-at
 overflow_add-at c = omega (arith, c.requires.edition_bound, (entry_most c.args.edition).0)
 
-pub wide_bits-requires-2 : goal.wide_bits-requires-2
-wide_bits-requires-2 c = coordinate_fits c.requires.inside.y
-
 pub same_word-b-requires : goal.same_word-b-requires
 same_word-b-requires c = word_room _ (omega (arith, c.requires.edition_bound, (entry_most c.args.edition).0))
 
 pub overflow_add-at-2 : goal.overflow_add-at-2
 overflow_add-at-2 c = omega (arith, c.requires.edition_bound, (entry_most c.args.edition).0)
-
-pub wide_bits-requires-3 : goal.wide_bits-requires-3
-wide_bits-requires-3 c = coordinate_fits (radius_size c.requires.inside.radius)
 
 pub same_word-c-requires : goal.same_word-c-requires
 same_word-c-requires c = word_room _ (omega (arith, c.requires.edition_bound, (entry_most c.args.edition).0))
@@ -38,9 +29,6 @@ same_post-d-requires c = omega (arith, c.requires.edition_bound, (entry_most c.a
 
 pub overflow_sub-last : goal.overflow_sub-last
 overflow_sub-last c = omega (arith, c.entry_bytes-last.ensures, (entry_most c.args.edition).0)
-
-pub overflow_add-at-4 : goal.overflow_add-at-4
-overflow_add-at-4 c = omega (arith, c.requires.edition_bound, c.entry_bytes-last.ensures)
 
 pub same_word-requires : goal.same_word-requires
 same_word-requires c = word_room _ (omega (arith, c.requires.edition_bound, c.entry_bytes-last.ensures, (entry_most c.args.edition).0))

@@ -1,11 +1,8 @@
 -- `comparing::difference::same_style` meets its contract: three words one after another. Assumes nothing.
 use native.Mathlib.Omega.{arith}
 use Rattle.words.proofs.OneWord.{word_room}
-use Rattle.outline.proofs.Parts.{coordinate_fits, radius_size, style_run}
+use Rattle.outline.proofs.Parts.{style_run}
 use Rattle.comparing.proofs.difference.same_style.Goals as goal
-
-pub wide_bits-requires : goal.wide_bits-requires
-wide_bits-requires c = coordinate_fits (radius_size c.requires)
 
 pub same_word-a-requires : goal.same_word-a-requires
 same_word-a-requires c = word_room _ (omega arith)

@@ -8,8 +8,14 @@ moved-x-requires c = x_ready _ _ _ c.requires.0 c.requires.1 c.requires.2 c.requ
 pub moved-y-requires : goal.moved-y-requires
 moved-y-requires c = y_ready _ _ _ c.requires.0 c.requires.1 c.requires.2 c.requires.3
 
-pub returns : goal.returns
-returns c = (
+pub returns-then-x : goal.returns-then-x
+returns-then-x c = (
   contact_back _ _ _ c.requires.0 c.requires.1 c.requires.2 c.requires.3 c.moved-x.ensures.0 c.moved-y.ensures.0,
-  contact_even _ _ _ c.requires.0 c.requires.1 c.requires.2 c.requires.3 c.moved-x.ensures.1 c.moved-y.ensures.1 c.both.ensures,
+  contact_even _ _ _ c.requires.0 c.requires.1 c.requires.2 c.requires.3 c.moved-x.ensures.1 c.moved-y.ensures.1 (rw c.if-x.true),
+)
+
+pub returns-else-x : goal.returns-else-x
+returns-else-x c = (
+  contact_back _ _ _ c.requires.0 c.requires.1 c.requires.2 c.requires.3 c.moved-x.ensures.0 c.moved-y.ensures.0,
+  contact_even _ _ _ c.requires.0 c.requires.1 c.requires.2 c.requires.3 c.moved-x.ensures.1 c.moved-y.ensures.1 (rw c.if-x.false),
 )

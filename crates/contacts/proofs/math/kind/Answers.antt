@@ -12,8 +12,8 @@ use Rattle.contacts.proofs.math.kind.Goals as goal
 pub square-requires : goal.square-requires
 square-requires c = line_short _ _ c.line.ensures c.requires.0 c.requires.1
 
-length : (c : After-square) → c.size-d.result ≡ nat_abs (delta_of c.args.a c.args.b)
-length c = delta_size c.requires.0 c.requires.1 c.delta.ensures c.size-d.ensures
+length : (c : After-square) → c.unsigned_abs-d.result ≡ nat_abs (delta_of c.args.a c.args.b)
+length c = delta_size c.requires.0 c.requires.1 c.delta.ensures c.unsigned_abs-d.ensures.value
 
 square : (c : After-square) → c.square.result ≡ square_of (line_of c.args.a c.args.b)
 square c = c.square.ensures ∙ ap square_of c.line.ensures

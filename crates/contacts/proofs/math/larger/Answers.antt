@@ -1,10 +1,7 @@
--- `contacts::math::larger` meets its contract: the test on bits is the test on radii. Assumes nothing.
+-- `contacts::math::larger` meets its contract: the library's larger number is the rule's. Assumes nothing.
 use borrow.Author.Rules.{rules}
-use Rattle.contacts.proofs.Steps.{larger_first, larger_second}
+use Rattle.contacts.proofs.Steps.{larger_is}
 use Rattle.contacts.proofs.math.larger.Goals as goal
 
-pub returns-then-a-b : goal.returns-then-a-b
-returns-then-a-b c = larger_second _ _ (search rules) (search rules) c.if-a-b.true
-
-pub returns-else-a-b : goal.returns-else-a-b
-returns-else-a-b c = larger_first _ _ (search rules) (search rules) c.if-a-b.false
+pub returns : goal.returns
+returns c = larger_is _ _ (search rules) (search rules) (record { sfits = c.max.type_inv }) c.max.ensures.value

@@ -1,12 +1,9 @@
 -- `contacts::math::moved` meets its contract: an offset is no longer than the radius, so the sum fits. Assumes nothing.
-use Rattle.contacts.proofs.Tangents.{ready, moved_fits, moved_back, moved_exact}
+use Rattle.contacts.proofs.Tangents.{moved_fits, moved_back, moved_exact}
 use Rattle.contacts.proofs.math.moved.Goals as goal
 
-pub mul_div-q-requires : goal.mul_div-q-requires
-mul_div-q-requires c = ready c.args.x c.args.radius c.args.n c.args.divisor c.requires.0 c.requires.1 c.requires.2 c.requires.3 c.requires.4
-
-pub overflow_add-to : goal.overflow_add-to
-overflow_add-to c = moved_fits c.args.x c.args.radius c.args.n c.args.divisor c.requires.0 c.requires.1 c.requires.2 c.requires.3 c.requires.4 c.mul_div-q.ensures.0
+pub overflow_add-result : goal.overflow_add-result
+overflow_add-result c = moved_fits c.args.x c.args.radius c.args.n c.args.divisor c.requires.0 c.requires.1 c.requires.2 c.requires.3 c.requires.4 c.mul_div-q.ensures.0
 
 pub returns : goal.returns
 returns c = (

@@ -6,23 +6,17 @@ use lib.IntN.{nat_abs}
 use Rattle.plane.proofs.Products.{back}
 use Rattle.contacts.proofs.Contacts.{Shifts}
 use Rattle.contacts.proofs.Tangents.{shifts_as, tangent_back}
-use Rattle.contacts.proofs.math.tangent.Goals.{After-size-d}
+use Rattle.contacts.proofs.math.tangent.Goals.{After-unsigned_abs-d}
 use Rattle.contacts.proofs.math.tangent.Goals as goal
 
-length : (c : After-size-d) → c.size-d.result ≡ nat_abs c.args.delta
-length c = rw (back c.ranges.delta) at c.size-d.ensures
+length : (c : After-unsigned_abs-d) → c.unsigned_abs-d.result ≡ nat_abs c.args.delta
+length c = rw (back c.ranges.delta) at c.unsigned_abs-d.ensures.value
 
-square : (c : After-size-d) → c.size-d.result * c.size-d.result < c.args.sq
+square : (c : After-unsigned_abs-d) → c.unsigned_abs-d.result * c.unsigned_abs-d.result < c.args.sq
 square c = rw (length c) c.requires.0
 
-room : (c : After-size-d) → Shifts c.args.sq c.args.k
+room : (c : After-unsigned_abs-d) → Shifts c.args.sq c.args.k
 room c = shifts_as _ _ (omega (arith, c.requires.0)) c.requires.1 c.requires.2
-
-pub overflow_mul-n : goal.overflow_mul-n
-overflow_mul-n c = omega (arith, square c, c.requires.1)
-
-pub overflow_sub-n : goal.overflow_sub-n
-overflow_sub-n c = omega (arith, square c)
 
 pub overflow_mul-n-2 : goal.overflow_mul-n-2
 overflow_mul-n-2 c = omega (arith, (room c).high)
@@ -32,4 +26,4 @@ overflow_shl-n c = omega (arith, (room c).high)
 
 pub returns : goal.returns
 returns c =
-    tangent_back _ _ (omega (arith, c.requires.0)) c.requires.1 c.requires.2 _ (length (goal.at.returns c).After-size-d) c.root.ensures
+    tangent_back _ _ (omega (arith, c.requires.0)) c.requires.1 c.requires.2 _ (length (goal.at.returns c).After-unsigned_abs-d) c.root.ensures

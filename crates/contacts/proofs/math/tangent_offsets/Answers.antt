@@ -5,7 +5,7 @@ use native.Mathlib.Omega.{arith}
 use lib.IntN.{nat_abs}
 use Rattle.plane.proofs.Products.{bits, back}
 use Rattle.contacts.proofs.Contacts.{line_square}
-use Rattle.contacts.proofs.Tangents.{Known, known, opposite_fits, tangents, left_is, right_is, divisor_is}
+use Rattle.contacts.proofs.Tangents.{Known, known, tangents, left_is, right_is, divisor_is}
 use Rattle.contacts.proofs.math.tangent_offsets.Goals.{After-square-sq, After-tangent-t}
 use Rattle.contacts.proofs.math.tangent_offsets.Goals as goal
 
@@ -24,9 +24,6 @@ shift-k-requires c = (omega (arith, above c), most c)
 
 pub tangent-t-requires : goal.tangent-t-requires
 tangent-t-requires c = (above (goal.at.tangent-t-requires c).After-square-sq, most (goal.at.tangent-t-requires c).After-square-sq, c.shift-k.ensures)
-
-pub overflow_sub-minus : goal.overflow_sub-minus
-overflow_sub-minus c = opposite_fits (facts c).tangent
 
 pub numerator-requires : goal.numerator-requires
 numerator-requires c = let k = facts c in (c.requires.0, k.scaled, k.shifts.high, search (tangents, k.tangent))

@@ -1,6 +1,6 @@
 -- `contacts::sections::inside` meets its contract: the inward cross product and its sign are the rule's, and a radius is not negative.
 -- Assumes nothing.
-use mathlib.Core.Path.{◌≡◌}
+use mathlib.Core.Path.{◌≡◌, ◌∙◌}
 use native.Mathlib.Omega.{arith}
 use lib.IntN.{pos, ◌*ℤ◌}
 use lib.Signed.{le_z}
@@ -8,10 +8,10 @@ use mir.Syntax.{w64}
 use mir.Val.{SFits}
 use Rattle.number.specs.Root.{root_up_of}
 use Rattle.plane.specs.Vectors.{Short, square_of}
-use Rattle.plane.proofs.Products.{square_most}
+use Rattle.plane.proofs.Products.{bits, square_most}
 use Rattle.contacts.specs.Covering.{inside_of}
 use Rattle.contacts.proofs.Steps.{place_near}
-use Rattle.contacts.proofs.Covers.{way_short, cross_back, radius_cast, inward_cast, inside_as, inside_out, inside_tells}
+use Rattle.contacts.proofs.Covers.{way_short, cross_back, not_below, below, inside_as, inside_out, inside_tells}
 use Rattle.contacts.proofs.sections.inside.Goals.{After-from_to-v, After-inward-z}
 use Rattle.contacts.proofs.sections.inside.Goals as goal
 
@@ -36,21 +36,15 @@ asked c = inside_as _ _ _ _ c.ranges.turn (record { sfits = c.cross.type_inv }) 
 fits : (c : After-inward-z) → SFits w64 c.inward-z.result
 fits c = record { sfits = c.inward-z.type_inv }
 
-pub returns-then-z-lt0 : goal.returns-then-z-lt0
-returns-then-z-lt0 c = inside_out _ _ _ c.requires.0.radius (fits (goal.at.returns-then-z-lt0 c).After-inward-z) (asked (goal.at.returns-then-z-lt0 c).After-inward-z) c.if-z-lt0.true
-
-pub overflow_cast-b : goal.overflow_cast-b
-overflow_cast-b c = radius_cast c.requires.0.radius
-
 pub square-requires : goal.square-requires
 square-requires c = way (goal.at.square-requires c).After-from_to-v
-
-pub overflow_cast-z : goal.overflow_cast-z
-overflow_cast-z c = inward_cast (fits (goal.at.overflow_cast-z c).After-inward-z) c.if-z-lt0.false
 
 pub times_root_up_at_most-requires : goal.times_root_up_at_most-requires
 times_root_up_at_most-requires c = omega (arith, c.square.ensures, square_most (way (goal.at.times_root_up_at_most-requires c).After-from_to-v))
 
-pub returns : goal.returns
-returns c =
-    inside_tells _ _ _ c.requires.0.radius (fits (goal.at.returns c).After-inward-z) (asked (goal.at.returns c).After-inward-z) c.if-z-lt0.false (rw c.square.ensures at c.times_root_up_at_most.ensures)
+pub returns-then-z-ge0 : goal.returns-then-z-ge0
+returns-then-z-ge0 c =
+    inside_tells _ _ _ c.requires.0.radius (fits (goal.at.returns-then-z-ge0 c).After-inward-z) (asked (goal.at.returns-then-z-ge0 c).After-inward-z) (not_below (bits c.inward-z.result) c.if-z-ge0.true) (rw c.square.ensures at c.times_root_up_at_most.ensures)
+
+pub returns-else-z-ge0 : goal.returns-else-z-ge0
+returns-else-z-ge0 c = c.if-z-ge0.false ∙ inside_out _ _ _ c.requires.0.radius (fits (goal.at.returns-else-z-ge0 c).After-inward-z) (asked (goal.at.returns-else-z-ge0 c).After-inward-z) (below (bits c.inward-z.result) c.if-z-ge0.false)

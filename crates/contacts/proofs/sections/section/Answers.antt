@@ -14,11 +14,11 @@ offsets c =
     let e = c.tangent_offsets-offsets.ensures in
     offsets_are c.requires.0 c.requires.1 c.line.ensures c.delta.ensures e.left e.right e.divisor
 
-pub contacts-left_side-requires : goal.contacts-left_side-requires
-contacts-left_side-requires c = left_ready c.requires.0 c.requires.1 c.requires.2 (offsets (goal.at.contacts-left_side-requires c).After-tangent_offsets-offsets)
+pub contacts-left-requires : goal.contacts-left-requires
+contacts-left-requires c = left_ready c.requires.0 c.requires.1 c.requires.2 (offsets (goal.at.contacts-left-requires c).After-tangent_offsets-offsets)
 
-pub contacts-right_side-requires : goal.contacts-right_side-requires
-contacts-right_side-requires c = right_ready c.requires.0 c.requires.1 c.requires.2 (offsets (goal.at.contacts-right_side-requires c).After-tangent_offsets-offsets)
+pub contacts-right-requires : goal.contacts-right-requires
+contacts-right-requires c = right_ready c.requires.0 c.requires.1 c.requires.2 (offsets (goal.at.contacts-right-requires c).After-tangent_offsets-offsets)
 
 pub returns : goal.returns
-returns c = section_is _ _ (offsets (goal.at.returns c).After-tangent_offsets-offsets) (contacts_are c.contacts-left_side.ensures.edge c.contacts-left_side.ensures.exact) (contacts_are c.contacts-right_side.ensures.edge c.contacts-right_side.ensures.exact) c.trend.ensures
+returns c = section_is _ _ (offsets (goal.at.returns c).After-tangent_offsets-offsets) (contacts_are c.contacts-left.ensures.edge c.contacts-left.ensures.exact) (contacts_are c.contacts-right.ensures.edge c.contacts-right.ensures.exact) c.trend.ensures

@@ -1,13 +1,13 @@
--- `contacts::sections::trend` meets its contract: the tests on bits are the tests on radii. Assumes nothing.
-use borrow.Author.Rules.{rules}
-use Rattle.contacts.proofs.Steps.{trend_falls, trend_grows, trend_stays}
+-- `contacts::sections::trend` meets its contract: the order of the radii tells the trend. Assumes nothing.
+use mathlib.Core.Path.{◌∙◌, ap, sym}
+use Rattle.contacts.proofs.Steps.{trend_in, trend_is}
 use Rattle.contacts.proofs.sections.trend.Goals as goal
 
-pub returns-then-b-a : goal.returns-then-b-a
-returns-then-b-a c = trend_falls _ _ (search rules) (search rules) c.if-b-a.true
+pub returns-in-Greater : goal.returns-in-Greater
+returns-in-Greater c = ap trend_in (sym c.in-Greater.is) ∙ trend_is _ _ c.cmp.ensures
 
-pub returns-then-a-b : goal.returns-then-a-b
-returns-then-a-b c = trend_grows _ _ (search rules) (search rules) c.if-b-a.false c.if-a-b.true
+pub returns-in-Equal : goal.returns-in-Equal
+returns-in-Equal c = ap trend_in (sym c.in-Equal.is) ∙ trend_is _ _ c.cmp.ensures
 
-pub returns-else-a-b : goal.returns-else-a-b
-returns-else-a-b c = trend_stays _ _ (search rules) (search rules) c.if-b-a.false c.if-a-b.false
+pub returns-in-Less : goal.returns-in-Less
+returns-in-Less c = ap trend_in (sym c.in-Less.is) ∙ trend_is _ _ c.cmp.ensures

@@ -3,7 +3,7 @@ use Rattle.differences.proofs.EdgesCompared.{edges_differ_lem, edges_same}
 use Rattle.differences.proofs.bodies.edges_number.Goals as goal
 
 pub returns-then-good-end : goal.returns-then-good-end
-returns-then-good-end c = edges_differ_lem c.args.old c.smaller-few.ensures _ c.args.at c.requires.0 c.same_numbers-good.ensures c.if-good-end.true
+returns-then-good-end c = edges_differ_lem c.args.old c.min-few.ensures _ c.args.at c.requires.0 c.same_numbers-good.ensures c.if-good-end.true
 
-pub returns : goal.returns
-returns c = edges_same c.args.old c.smaller-few.ensures _ c.args.at c.requires.0 c.same_numbers-good.ensures c.if-good-end.false
+pub returns-else-good-end : goal.returns-else-good-end
+returns-else-good-end c = edges_same c.args.old c.min-few.ensures _ c.args.at c.requires.0 c.same_numbers-good.ensures c.if-good-end.false

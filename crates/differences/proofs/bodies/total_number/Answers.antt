@@ -5,5 +5,5 @@ use Rattle.differences.proofs.bodies.total_number.Goals as goal
 pub returns-then-old-due : goal.returns-then-old-due
 returns-then-old-due c = totals_same c.if-old-due.true
 
-pub returns : goal.returns
-returns c = totals_differ c.if-old-due.false
+pub returns-else-old-due : goal.returns-else-old-due
+returns-else-old-due c = totals_differ c.if-old-due.false

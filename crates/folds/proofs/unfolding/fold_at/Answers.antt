@@ -18,14 +18,14 @@ bow_in-requires c = stands_bent c.requires (mark_told {z = get_or c.args.own.now
 pub returns-then-own-j : goal.returns-then-own-j
 returns-then-own-j c = bent_reads c.bow_in.ensures (mark_told {z = get_or c.args.own.now c.args.j (pos 0)} (record { sfits = search rules }) c.if-own-j.true)
 
-pub point_in-a-requires : goal.point_in-a-requires
-point_in-a-requires c = omega (arith, stands_length c.requires)
+pub point_in-requires : goal.point_in-requires
+point_in-requires c = omega (arith, stands_length c.requires)
 
 pub overflow_add-j : goal.overflow_add-j
 overflow_add-j c = omega (arith, stands_length c.requires)
 
-pub point_in-b-requires : goal.point_in-b-requires
-point_in-b-requires c = omega (arith, stands_length c.requires)
+pub point_in-requires-else-own-j : goal.point_in-requires-else-own-j
+point_in-requires-else-own-j c = omega (arith, stands_length c.requires)
 
-pub returns : goal.returns
-returns c = straight_reads _ _ (mark_not c.if-own-j.false) c.point_in-a.ensures c.point_in-b.ensures
+pub returns-else-own-j : goal.returns-else-own-j
+returns-else-own-j c = straight_reads _ _ (mark_not c.if-own-j.false) c.point_in.ensures c.point_in-else-own-j.ensures

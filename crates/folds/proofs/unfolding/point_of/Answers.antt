@@ -1,14 +1,9 @@
 -- `folds::unfolding::point_of` meets its contract: each coordinate lands where the direction scaled by the radius moves the centre's. Assumes nothing.
 use borrow.Author.Rules.{rules}
-use native.Mathlib.Omega.{arith}
-use lib.Signed.{yes_non_neg}
 use Rattle.plane.proofs.Products.{short_back, small_back}
 use Rattle.plane.proofs.Directions.{unit_short}
 use Rattle.turning.proofs.Limits.{radius_back, heading_x, heading_y, point_landed}
 use Rattle.folds.proofs.unfolding.point_of.Goals as goal
-
-pub overflow_cast-r : goal.overflow_cast-r
-overflow_cast-r c = rw (radius_back c.requires.1) (yes_non_neg c.requires.1.low, omega (arith, c.requires.1.high))
 
 pub landed-requires : goal.landed-requires
 landed-requires c =

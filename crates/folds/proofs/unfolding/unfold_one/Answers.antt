@@ -7,7 +7,7 @@ use Rattle.folds.proofs.unfolding.unfold_one.Goals as goal
 
 pub store-requires : goal.store-requires
 store-requires c =
-    let e = c.in-Straight.is in record { reach = straight_sound e c.requires.1; room = one_room _ (omega (arith, size_straight e, c.requires.2, c.well_formed.0.0)); at_in_bounds = omega (arith, size_straight e, c.requires.2) }
+    let e = c.in-Straight.is in record { reach = straight_sound e c.requires.1; room = one_room _ (omega (arith, size_straight e, c.requires.2, c.well_formed.0.0)); inside = omega (arith, size_straight e, c.requires.2) }
 
 pub bent-requires : goal.bent-requires
 bent-requires c =

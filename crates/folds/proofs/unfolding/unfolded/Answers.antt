@@ -18,9 +18,6 @@ size-n-requires c = counting_sound c.loop-j.invariant c.loop-j-test.true c.fold_
 pub overflow_add-n : goal.overflow_add-n
 overflow_add-n c = let r = counting_step c.loop-j.invariant c.loop-j-test.true c.fold_at-f.ensures c.size-n.ensures refl in omega (arith, (counting_most r).1, c.requires.1)
 
-pub width-j-requires : goal.width-j-requires
-width-j-requires c = tt
-
 pub overflow_add-j : goal.overflow_add-j
 overflow_add-j c = let r = counting_step c.loop-j.invariant c.loop-j-test.true c.fold_at-f.ensures c.size-n.ensures c.width-j.ensures in omega (arith, (counting_most r).0)
 

@@ -1,27 +1,51 @@
 -- `heading::heads::head_rows` meets its contract: each return is the outcome of a row, in the order of the rows. Assumes nothing.
-use Rattle.heading.proofs.HeadRows.{head_short, head_older, head_newer, head_kind, head_least, head_misplaced, kind_fits, head_past}
+use Rattle.heading.specs.Heads.{head_rows, RowsSay}
+use Rattle.heading.proofs.Handed.{handed}
+use Rattle.heading.proofs.HeadRows.{bytes_of, form_words, length_is, passed, row_holds, row_fails}
 use Rattle.heading.proofs.heads.head_rows.Goals as goal
 
-pub returns-then-s-lt-LEAST : goal.returns-then-s-lt-LEAST
-returns-then-s-lt-LEAST c = head_short _ c.if-s-lt-LEAST.true
+pub returns-in_err-edition : goal.returns-in_err-edition
+unfolding head_rows
+returns-in_err-edition c = handed (RowsSay _ _) c.from_residual.ensures.1 (row_holds c.in_err-edition.ensures)
 
-pub returns-then-edition-lt-FIRST_EDITION : goal.returns-then-edition-lt-FIRST_EDITION
-returns-then-edition-lt-FIRST_EDITION c = head_older _ c.if-s-lt-LEAST.false c.word_at-edition.ensures c.if-edition-lt-FIRST_EDITION.true
+pub returns-in_err-kind : goal.returns-in_err-kind
+unfolding head_rows
+returns-in_err-kind c = handed (RowsSay _ _) c.from_residual-in_err-kind.ensures.1 (row_fails c.in_ok-edition.ensures.0 (row_holds c.in_err-kind.ensures))
 
-pub returns-then-edition-gt-SECOND_EDITION : goal.returns-then-edition-gt-SECOND_EDITION
-returns-then-edition-gt-SECOND_EDITION c = head_newer _ c.if-s-lt-LEAST.false c.word_at-edition.ensures c.if-edition-lt-FIRST_EDITION.false c.if-edition-gt-SECOND_EDITION.true
+pub returns-in_err-fits_kind : goal.returns-in_err-fits_kind
+unfolding head_rows
+returns-in_err-fits_kind c = handed (RowsSay _ _) c.from_residual-in_err-fits_kind.ensures.1 (row_fails c.in_ok-edition.ensures.0 (row_fails c.in_ok-kind.ensures.0 (row_holds c.in_err-fits_kind.ensures)))
 
-pub returns-then-kind-gt-KERB_KIND : goal.returns-then-kind-gt-KERB_KIND
-returns-then-kind-gt-KERB_KIND c = head_kind _ c.if-s-lt-LEAST.false c.word_at-edition.ensures c.if-edition-lt-FIRST_EDITION.false c.if-edition-gt-SECOND_EDITION.false c.word_at-kind.ensures c.if-kind-gt-KERB_KIND.true
+pub returns-in_err-grade : goal.returns-in_err-grade
+unfolding head_rows
+returns-in_err-grade c = handed (RowsSay _ _) c.from_residual-in_err-grade.ensures.1 (row_fails c.in_ok-edition.ensures.0 (row_fails c.in_ok-kind.ensures.0 (row_fails c.in_ok-fits_kind.ensures.0 (row_holds c.in_err-grade.ensures))))
 
-pub returns-then-s-least : goal.returns-then-s-least
-returns-then-s-least c = head_least _ c.if-s-lt-LEAST.false c.word_at-edition.ensures c.if-edition-lt-FIRST_EDITION.false c.if-edition-gt-SECOND_EDITION.false c.word_at-kind.ensures c.if-kind-gt-KERB_KIND.false c.least.ensures c.if-s-least.true
+pub returns-in_err-form : goal.returns-in_err-form
+unfolding head_rows
+returns-in_err-form c = handed (RowsSay _ _) c.from_residual-in_err-form.ensures.1 (row_fails c.in_ok-edition.ensures.0 (row_fails c.in_ok-kind.ensures.0 (row_fails c.in_ok-fits_kind.ensures.0 (row_fails c.in_ok-grade.ensures.0 (row_holds c.in_err-form.ensures)))))
 
-pub returns-then-misplaced : goal.returns-then-misplaced
-returns-then-misplaced c = head_misplaced _ c.if-s-lt-LEAST.false c.word_at-edition.ensures c.if-edition-lt-FIRST_EDITION.false c.if-edition-gt-SECOND_EDITION.false c.word_at-kind.ensures c.if-kind-gt-KERB_KIND.false c.least.ensures c.if-s-least.false c.misplaced.ensures c.if-misplaced.true
+pub returns-in_err-n : goal.returns-in_err-n
+unfolding head_rows
+returns-in_err-n c = handed (RowsSay _ _) c.from_residual-in_err-n.ensures.1 (row_fails c.in_ok-edition.ensures.0 (row_fails c.in_ok-kind.ensures.0 (row_fails c.in_ok-fits_kind.ensures.0 (row_fails c.in_ok-grade.ensures.0 (row_fails c.in_ok-form.ensures.0 (row_holds c.in_err-n.ensures))))))
 
-pub form_rows-requires : goal.form_rows-requires
-form_rows-requires c = kind_fits _ c.if-s-lt-LEAST.false c.word_at-edition.ensures c.if-edition-lt-FIRST_EDITION.false c.if-edition-gt-SECOND_EDITION.false c.word_at-kind.ensures c.if-kind-gt-KERB_KIND.false c.least.ensures c.if-s-least.false c.misplaced.ensures c.if-misplaced.false
+pub fits_length-requires : goal.fits_length-requires
+fits_length-requires c = length_is _ c.in_ok-form.ensures.1.0 c.in_ok-n.ensures.1.0 c.in_ok-n.ensures.1.1 c.word_at-m.ensures c.word_at-m.type_inv
+
+pub returns-in_err-fits_length : goal.returns-in_err-fits_length
+unfolding head_rows
+returns-in_err-fits_length c = handed (RowsSay _ _) c.from_residual-in_err-fits_length.ensures.1 (row_fails c.in_ok-edition.ensures.0 (row_fails c.in_ok-kind.ensures.0 (row_fails c.in_ok-fits_kind.ensures.0 (row_fails c.in_ok-grade.ensures.0 (row_fails c.in_ok-form.ensures.0 (row_fails c.in_ok-n.ensures.0 (row_holds c.in_err-fits_length.ensures)))))))
 
 pub returns : goal.returns
-returns c = head_past _ c.if-s-lt-LEAST.false c.word_at-edition.ensures c.if-edition-lt-FIRST_EDITION.false c.if-edition-gt-SECOND_EDITION.false c.word_at-kind.ensures c.if-kind-gt-KERB_KIND.false c.least.ensures c.if-s-least.false c.misplaced.ensures c.if-misplaced.false c.form_rows.ensures
+unfolding head_rows
+returns c =
+    let words = form_words c.in_ok-fits_kind.ensures.1 in
+    row_fails c.in_ok-edition.ensures.0 (row_fails c.in_ok-kind.ensures.0 (row_fails c.in_ok-fits_kind.ensures.0 (row_fails c.in_ok-grade.ensures.0 (row_fails c.in_ok-form.ensures.0 (row_fails c.in_ok-n.ensures.0 (row_fails c.in_ok-fits_length.ensures.0 (passed (record {
+      headed = record { bytes = bytes_of _ c.type_inv.s; edition = words.0; kind = words.1; count = rw c.in_ok-n.ensures.1.0 at c.in_ok-n.ensures.1.1; long = c.in_ok-fits_length.ensures.1 };
+      form = c.in_ok-form.ensures.1.0;
+      within = c.in_ok-form.ensures.1.1;
+      grade = c.in_ok-grade.ensures.1.0;
+      vertices = c.in_ok-n.ensures.1.0;
+      edges = c.word_at-m.ensures;
+      low = c.in_ok-grade.ensures.1.1;
+      high = c.in_ok-grade.ensures.1.2;
+    }))))))))

@@ -3,7 +3,6 @@ use mathlib.Core.Path.{ap}
 use Prim.Native.Nat.{ℕ, ◌*◌}
 use Rattle.outline.proofs.FormLengths.{entries_four, entry_most}
 use native.Mathlib.Omega.{arith}
-use lib.ListN.{length-set}
 use Rattle.heading.proofs.Shown.{vertex_shown}
 use Rattle.heading.proofs.shows.show_vertex.Goals as goal
 
@@ -27,12 +26,6 @@ overflow_add-entry-3 c = omega (arith, c.requires.0, c.entry_words-wide.ensures,
 
 pub word_at-requires-3 : goal.word_at-requires-3
 word_at-requires-3 c = omega (arith, c.requires.0, c.entry_words-wide.ensures, ap (λ (w : ℕ). w * c.args.k) c.entry_words-wide.ensures, entries_four c.args.edition c.args.k, (entry_most c.args.edition).0, c.well_formed.0.0)
-
-pub bounds-out-at-2 : goal.bounds-out-at-2
-bounds-out-at-2 c = simp length-set (omega (arith, c.requires.1))
-
-pub bounds-out-at-3 : goal.bounds-out-at-3
-bounds-out-at-3 c = simp length-set (omega (arith, c.requires.1))
 
 pub returns : goal.returns
 returns c = vertex_shown c.args.edition c.args.s.now c.args.k c.entry_words-wide.ensures c.signed-x.type_inv c.signed-y.type_inv c.signed-radius.type_inv c.signed-x.ensures c.signed-y.ensures c.signed-radius.ensures c.word_at.ensures c.word_at-2.ensures c.word_at-3.ensures

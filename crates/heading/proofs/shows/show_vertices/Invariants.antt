@@ -1,5 +1,5 @@
 -- `heading::shows::show_vertices` meets its contract: what is left of the table is shown on, entry by entry. Assumes nothing.
-use Prim.Native.Nat.{◌-◌, ◌*◌, ◌≤◌}
+use Prim.Native.Nat.{◌-◌, ◌*◌}
 use lib.ListN.{drop}
 use Rattle.runs.proofs.Onward.{Onward}
 use Rattle.runs.specs.Runs.{put}
@@ -11,7 +11,4 @@ use Rattle.words.specs.Words.{words_in}
 use Rattle.heading.proofs.shows.show_vertices.Given as goal
 
 abbrev pub invariant-loop-k : goal.invariant-loop-k
-invariant-loop-k l = (l.k ≤ l.n) × Onward put vertex_numbers l.initial.out 0 (shown_in (Stroke l.edition) l.n (drop (header_words (Stroke l.edition)) (words_in l.s))) l.out (3 * l.k) (shown_in (Stroke l.edition) (l.n - l.k) (drop (entry_at (Stroke l.edition) l.k) (words_in l.s)))
-
-abbrev pub decreases-loop-k : goal.decreases-loop-k
-decreases-loop-k l = l.n - l.k
+invariant-loop-k l = Onward put vertex_numbers l.initial.out 0 (shown_in (Stroke l.edition) l.n (drop (header_words (Stroke l.edition)) (words_in l.s))) l.out (3 * l.k) (shown_in (Stroke l.edition) (l.n - l.k) (drop (entry_at (Stroke l.edition) l.k) (words_in l.s)))

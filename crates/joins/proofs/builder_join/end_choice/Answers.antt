@@ -1,15 +1,12 @@
 -- `joins::builder_join::end_choice` meets its contract: each trend is the definition's. Assumes nothing.
+use mathlib.Core.Logic.{inl, inr}
 use mathlib.Core.Path.{sym, ap}
 use Rattle.joins.specs.Joins.{end_choice}
 use Rattle.joins.proofs.builder_join.end_choice.Goals as goal
 
 pub returns-in-Decreasing : goal.returns-in-Decreasing
 unfolding end_choice
-returns-in-Decreasing c = ap end_choice (sym c.in-Decreasing.is)
-
-pub returns-in-Constant : goal.returns-in-Constant
-unfolding end_choice
-returns-in-Constant c = ap end_choice (sym c.in-Constant.is)
+returns-in-Decreasing c = elim c.in-Decreasing.is [ inl e ↦ ap end_choice (sym e) | inr e ↦ ap end_choice (sym e) ]
 
 pub returns-in-Increasing : goal.returns-in-Increasing
 unfolding end_choice

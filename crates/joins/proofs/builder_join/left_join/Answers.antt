@@ -15,5 +15,5 @@ pub edge-requires : goal.edge-requires
 edge-requires c =
     let h = c.requires.unit_long in record { near = (contact_near h.2.a h.2.left_a, contact_near h.1.b h.1.left_b); room = room_as (left_edge _ _ _ c.left_turns.ensures c.if-left_turns.false) c.requires.room }
 
-pub returns : goal.returns
-returns c = lays_as (left_edge _ _ _ c.left_turns.ensures c.if-left_turns.false) (lays_edge (contact_near c.requires.unit_long.2.a c.requires.unit_long.2.left_a) (contact_near c.requires.unit_long.1.b c.requires.unit_long.1.left_b) c.edge.ensures)
+pub returns-else-left_turns : goal.returns-else-left_turns
+returns-else-left_turns c = lays_as (left_edge _ _ _ c.left_turns.ensures c.if-left_turns.false) (lays_edge (contact_near c.requires.unit_long.2.a c.requires.unit_long.2.left_a) (contact_near c.requires.unit_long.1.b c.requires.unit_long.1.left_b) c.edge.ensures)

@@ -15,5 +15,5 @@ pub edge-requires : goal.edge-requires
 edge-requires c =
     let h = c.requires.unit_long in record { near = (contact_near h.1.b h.1.right_b, contact_near h.2.a h.2.right_a); room = room_as (right_edge _ _ _ c.right_turns.ensures c.if-right_turns.false) c.requires.room }
 
-pub returns : goal.returns
-returns c = lays_as (right_edge _ _ _ c.right_turns.ensures c.if-right_turns.false) (lays_edge (contact_near c.requires.unit_long.1.b c.requires.unit_long.1.right_b) (contact_near c.requires.unit_long.2.a c.requires.unit_long.2.right_a) c.edge.ensures)
+pub returns-else-right_turns : goal.returns-else-right_turns
+returns-else-right_turns c = lays_as (right_edge _ _ _ c.right_turns.ensures c.if-right_turns.false) (lays_edge (contact_near c.requires.unit_long.1.b c.requires.unit_long.1.right_b) (contact_near c.requires.unit_long.2.a c.requires.unit_long.2.right_a) c.edge.ensures)

@@ -10,17 +10,17 @@ use Rattle.keeping.proofs.FilledSteps.{step_filled}
 use Rattle.keeping.proofs.TwoRuns.{table_room, body_room}
 use Rattle.keeping.proofs.filling.fill_step.Goals as goal
 
-pub step-w-requires : goal.step-w-requires
-step-w-requires c = record { unit_long = (c.requires.unit_long.0, c.requires.unit_long.1, c.requires.unit_long.2); room = own_room (emitted_most _ _ _) }
+pub step-walked-requires : goal.step-walked-requires
+step-walked-requires c = record { unit_long = (c.requires.sound.0, c.requires.sound.1, c.requires.sound.2); room = own_room (emitted_most _ _ _) }
 
-pub overflow_cast-n : goal.overflow_cast-n
-overflow_cast-n c = omega (arith, own_small (emitted_most _ _ _) c.step-w.ensures.made)
+pub overflow_cast-walked : goal.overflow_cast-walked
+overflow_cast-walked c = omega (arith, own_small (emitted_most _ _ _) c.step-walked.ensures.made)
 
 pub put_entry-table-requires : goal.put_entry-table-requires
-put_entry-table-requires c = record { inside = c.requires.unit_long.2; room = room_as (ap (λ (k : ℕ). entry_of c.args.edition c.args.b c.args.post k) (own_count (emitted_most _ _ _) c.step-w.ensures.made)) (table_room c.requires.apart) }
+put_entry-table-requires c = record { inside = c.requires.sound.2; room = room_as (ap (λ (k : ℕ). entry_of c.args.edition c.args.b c.args.post k) (own_count (emitted_most _ _ _) c.step-walked.ensures.made)) (table_room c.requires.apart) }
 
 pub put_numbers-bodies-requires : goal.put_numbers-bodies-requires
-put_numbers-bodies-requires c = record { n_in_bounds = own_inside (emitted_most _ _ _) c.step-w.ensures.made (c.requires.unit_long.3.step c.args.f.walk c.args.b); room = room_as (own_words (emitted_most _ _ _) c.step-w.ensures.made (c.requires.unit_long.3.step c.args.f.walk c.args.b)) (body_room c.requires.apart) }
+put_numbers-bodies-requires c = record { n_in_bounds = own_inside (emitted_most _ _ _) c.step-walked.ensures.made (c.requires.sound.3.step c.args.f.walk c.args.b); room = room_as (own_words (emitted_most _ _ _) c.step-walked.ensures.made (c.requires.sound.3.step c.args.f.walk c.args.b)) (body_room c.requires.apart) }
 
 pub returns : goal.returns
-returns c = step_filled c.args.edition c.args.b c.args.post (c.requires.unit_long.3.step c.args.f.walk c.args.b) c.step-w.ensures c.put_entry-table.ensures c.put_numbers-bodies.ensures
+returns c = step_filled c.args.edition c.args.b c.args.post (c.requires.sound.3.step c.args.f.walk c.args.b) c.step-walked.ensures c.put_entry-table.ensures c.put_numbers-bodies.ensures

@@ -2,23 +2,14 @@
 use native.Mathlib.Omega.{arith}
 use Rattle.words.proofs.OneWord.{word_room}
 use Rattle.outline.proofs.FormLengths.{entry_most}
-use Rattle.outline.proofs.Parts.{word_end, post_bytes, entry_room, coordinate_fits, radius_size, entry_run}
+use Rattle.outline.proofs.Parts.{word_end, post_bytes, entry_room, entry_run}
 use Rattle.keeping.proofs.filling.put_entry.Goals as goal
-
-pub wide_bits-requires : goal.wide_bits-requires
-wide_bits-requires c = coordinate_fits c.requires.inside.x
 
 pub put_word-a-requires : goal.put_word-a-requires
 put_word-a-requires c = word_room _ (omega (arith, entry_room c.args.edition _ _ _ c.requires.room, (entry_most c.args.edition).0))
 
-pub wide_bits-requires-2 : goal.wide_bits-requires-2
-wide_bits-requires-2 c = coordinate_fits c.requires.inside.y
-
 pub put_word-b-requires : goal.put_word-b-requires
 put_word-b-requires c = word_room _ (omega (arith, entry_room c.args.edition _ _ _ c.requires.room, (entry_most c.args.edition).0, word_end c.put_word-a.ensures))
-
-pub wide_bits-requires-3 : goal.wide_bits-requires-3
-wide_bits-requires-3 c = coordinate_fits (radius_size c.requires.inside.radius)
 
 pub put_word-c-requires : goal.put_word-c-requires
 put_word-c-requires c = word_room _ (omega (arith, entry_room c.args.edition _ _ _ c.requires.room, (entry_most c.args.edition).0, word_end c.put_word-a.ensures, word_end c.put_word-b.ensures))

@@ -26,4 +26,4 @@ pub put_word-requires : goal.put_word-requires
 put_word-requires c = word_room _ (omega (arith, word_end c.put_word-a.ensures, word_end c.put_word-b.ensures, word_end c.put_word-c.ensures, word_end c.put_word-d.ensures))
 
 pub returns : goal.returns
-returns c = header_run (Stroke c.args.edition) (runs_as (ap (λ (k : ℕ). k ∷ []) (sym c.edition_number.ensures)) c.put_word-a.ensures) c.put_word-b.ensures c.put_word-c.ensures c.put_word-d.ensures c.put_word.ensures (stroke_style c.args.edition)
+returns c = header_run (Stroke c.args.edition) (runs_as (ap (λ (k : ℕ). k ∷ []) (sym c.from.ensures)) c.put_word-a.ensures) c.put_word-b.ensures c.put_word-c.ensures c.put_word-d.ensures c.put_word.ensures (stroke_style c.args.edition)

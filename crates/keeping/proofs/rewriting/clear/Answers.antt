@@ -1,25 +1,11 @@
--- `keeping::rewriting::clear` meets its contract: whoever clears what is left has cleared all. Assumes nothing.
+-- `keeping::rewriting::clear` meets its contract: zeros as far as the bytes go. Assumes nothing.
+use borrow.Author.Rules.{rules}
 use native.Mathlib.Omega.{arith}
-use Rattle.keeping.proofs.Rewrites.{clear_start, clear_step, clear_end}
+use Rattle.keeping.proofs.Rewrites.{clear_none, clear_some}
 use Rattle.keeping.proofs.rewriting.clear.Goals as goal
 
-pub loop-i-init : goal.loop-i-init
-loop-i-init c = clear_start
+pub returns-then-from-end : goal.returns-then-from-end
+returns-then-from-end c = clear_some c.args.s.now c.args.from c.args.to (search rules) c.if-from-end.true (c.fill.ensures.after (λ y h. h))
 
-pub put_byte-requires : goal.put_byte-requires
-put_byte-requires c = tt
-
-pub overflow_add-i : goal.overflow_add-i
-overflow_add-i c = omega arith
-
-pub loop-i-smaller : goal.loop-i-smaller
-loop-i-smaller c = omega arith
-
-pub loop-i-preserved : goal.loop-i-preserved
-loop-i-preserved c = clear_step c.loop-i.invariant c.loop-i-test.true c.put_byte.ensures
-
-pub shape_of-s : goal.shape_of-s
-shape_of-s c = c.loop-i.invariant.long
-
-pub returns : goal.returns
-returns c = clear_end c.loop-i.invariant c.loop-i-test.false
+pub returns-else-from-end : goal.returns-else-from-end
+returns-else-from-end c = clear_none c.args.s.now c.args.from c.args.to (omega arith)

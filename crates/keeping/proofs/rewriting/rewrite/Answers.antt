@@ -1,35 +1,36 @@
 -- `keeping::rewriting::rewrite` meets its contract: its two tests are the row of a path without edges and, since what is needed is the outline's length, the row of the room. Assumes nothing.
 use mathlib.Core.Path.{sym, ◌∙◌}
 use native.Mathlib.Omega.{arith}
-use Rattle.paths.specs.Paths.{path_of}
 use Rattle.keeping.proofs.Rewrites.{needed_is, rewrite_empty, rewrite_short, rewrite_done}
 use Rattle.outline.proofs.FormLengths.{length_small}
 use Rattle.outline.proofs.ReadBack.{few_edges}
-use Rattle.outline.specs.declared.Form.TheVariants.{Stroke}
 use Rattle.keeping.proofs.rewriting.rewrite.Goals as goal
 
-pub count-m-requires : goal.count-m-requires
-count-m-requires c = (c.requires.0.count, c.requires.0.within)
-
 pub whole_length-needed-requires : goal.whole_length-needed-requires
-whole_length-needed-requires c = length_small (Stroke c.args.edition) _ _ (omega (arith, c.requires.0.count, c.requires.0.within.count)) (omega (arith, c.count-m.ensures, few_edges (Stroke c.args.edition) c.args.grade (path_of c.args.path.now) c.requires.0.within.count))
+whole_length-needed-requires g c = rw c.form.ensures (length_small (g.O.Outlined.form_of c.args.outlined.now) _ _ (omega (arith, c.vertices-n.ensures.0, c.vertices-n.ensures.1)) (omega (arith, c.edges-m.ensures, few_edges (g.O.Outlined.form_of c.args.outlined.now) (g.O.Outlined.grade_of c.args.outlined.now) (g.O.Outlined.vertices_of c.args.outlined.now) (omega (arith, c.vertices-n.ensures.0, c.vertices-n.ensures.1)))))
 
 pub returns-then-empty : goal.returns-then-empty
-returns-then-empty c = rewrite_empty (Stroke c.args.edition) c.args.grade c.args.posts.now (path_of c.args.path.now) _ _ c.requires.0.count c.count-m.ensures (sym c.without_edges-empty.ensures ∙ c.if-empty.true)
+returns-then-empty g c = rewrite_empty (g.O.Outlined.form_of c.args.outlined.now) (g.O.Outlined.grade_of c.args.outlined.now) (g.O.Outlined.posts_of c.args.outlined.now) (g.O.Outlined.vertices_of c.args.outlined.now) _ _ c.vertices-n.ensures.0 c.edges-m.ensures (sym c.without_edges-empty.ensures ∙ c.if-empty.true)
 
 pub returns-then-s-needed : goal.returns-then-s-needed
-returns-then-s-needed c =
-    let g = c.args.grade in
-    let vs = path_of c.args.path.now in
-    rewrite_short (Stroke c.args.edition) g c.args.posts.now vs _ _ c.requires.0.count c.count-m.ensures (sym c.without_edges-empty.ensures ∙ c.if-empty.false) (needed_is (Stroke c.args.edition) g c.args.posts.now vs c.requires.0.count c.count-m.ensures c.whole_length-needed.ensures) c.if-s-needed.true
+returns-then-s-needed g c =
+    let f = g.O.Outlined.form_of c.args.outlined.now in
+    let grade = g.O.Outlined.grade_of c.args.outlined.now in
+    let ps = g.O.Outlined.posts_of c.args.outlined.now in
+    let vs = g.O.Outlined.vertices_of c.args.outlined.now in
+    rewrite_short f grade ps vs _ _ c.vertices-n.ensures.0 c.edges-m.ensures (sym c.without_edges-empty.ensures ∙ c.if-empty.false) (needed_is f grade ps vs c.vertices-n.ensures.0 c.edges-m.ensures (rw c.form.ensures at c.whole_length-needed.ensures)) c.if-s-needed.true
 
 pub write-requires : goal.write-requires
-write-requires c =
-    let g = c.args.grade in
-    let vs = path_of c.args.path.now in record { n_value = (c.requires.0.count, c.requires.0.within, c.requires.2); m_value = (c.count-m.ensures, omega (arith, c.if-s-needed.false, needed_is (Stroke c.args.edition) g c.args.posts.now vs c.requires.0.count c.count-m.ensures c.whole_length-needed.ensures), c.requires.1) }
+write-requires g c =
+    let f = g.O.Outlined.form_of c.args.outlined.now in
+    let grade = g.O.Outlined.grade_of c.args.outlined.now in
+    let ps = g.O.Outlined.posts_of c.args.outlined.now in
+    let vs = g.O.Outlined.vertices_of c.args.outlined.now in record { room = c.requires.1; edges = c.edges-m.ensures; fits = (omega (arith, c.if-s-needed.false, needed_is f grade ps vs c.vertices-n.ensures.0 c.edges-m.ensures (rw c.form.ensures at c.whole_length-needed.ensures)), c.requires.0) }
 
 pub returns : goal.returns
-returns c =
-    let g = c.args.grade in
-    let vs = path_of c.args.path.now in
-    rewrite_done (Stroke c.args.edition) g c.args.posts.now vs _ _ c.requires.0.count c.count-m.ensures (sym c.without_edges-empty.ensures ∙ c.if-empty.false) (omega (arith, c.if-s-needed.false, needed_is (Stroke c.args.edition) g c.args.posts.now vs c.requires.0.count c.count-m.ensures c.whole_length-needed.ensures)) c.write.ensures
+returns g c =
+    let f = g.O.Outlined.form_of c.args.outlined.now in
+    let grade = g.O.Outlined.grade_of c.args.outlined.now in
+    let ps = g.O.Outlined.posts_of c.args.outlined.now in
+    let vs = g.O.Outlined.vertices_of c.args.outlined.now in
+    rewrite_done f grade ps vs _ _ c.vertices-n.ensures.0 c.edges-m.ensures (sym c.without_edges-empty.ensures ∙ c.if-empty.false) (omega (arith, c.if-s-needed.false, needed_is f grade ps vs c.vertices-n.ensures.0 c.edges-m.ensures (rw c.form.ensures at c.whole_length-needed.ensures))) c.write.ensures

@@ -18,6 +18,6 @@ pub closing-closed_at-requires : goal.closing-closed_at-requires
 closing-closed_at-requires c =
     let h = c.requires.unit_long in record { unit_long = (h.0, h.1, ready_closes c.args.pen.step _ _ _ _ h.2 h.3 c.if-more.false); room = room_as (corners_end _ _ c.args.first _ _ c.if-more.false) c.requires.room }
 
-pub returns : goal.returns
+pub returns-else-more : goal.returns-else-more
 unfolding in_phase
-returns c = record { tour = met_end c.args.pen.step c.args.y _ _ _ c.if-more.false; made = lays_as (corners_end _ _ c.args.first _ _ c.if-more.false) c.closing-closed_at.ensures }
+returns-else-more c = record { tour = met_end c.args.pen.step c.args.y _ _ _ c.if-more.false; made = lays_as (corners_end _ _ c.args.first _ _ c.if-more.false) c.closing-closed_at.ensures }

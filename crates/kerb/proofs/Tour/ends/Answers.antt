@@ -1,15 +1,12 @@
--- `kerb::Tour::ends` meets its contract: by the phase. Assumes nothing.
+-- `kerb::Tour::ends` meets its contract: each phase is the definition's. Assumes nothing.
+use mathlib.Core.Logic.{inl, inr}
 use mathlib.Core.Path.{sym, ap}
 use Rattle.kerb.specs.Tours.{ends_in}
 use Rattle.kerb.proofs.Tour.ends.Goals as goal
 
 pub returns-in-Sides : goal.returns-in-Sides
 unfolding ends_in
-returns-in-Sides c = ap (λ p. ends_in p c.args.more) (sym c.in-Sides.is)
-
-pub returns-in-Corners : goal.returns-in-Corners
-unfolding ends_in
-returns-in-Corners c = ap (λ p. ends_in p c.args.more) (sym c.in-Corners.is)
+returns-in-Sides c = elim c.in-Sides.is [ inl e ↦ ap (λ p. ends_in p c.args.more) (sym e) | inr e ↦ ap (λ p. ends_in p c.args.more) (sym e) ]
 
 pub returns-in-Caps : goal.returns-in-Caps
 unfolding ends_in

@@ -12,5 +12,5 @@ side-requires c =
 pub returns-then-more : goal.returns-then-more
 returns-then-more c = record { tour = c.side.ensures.tour ∙ sym (sided_more c.args.pen.step c.args.y _ _ _ c.if-more.true); made = lays_as (sides_more _ _ c.args.first _ _ c.if-more.true) c.side.ensures.made }
 
-pub returns : goal.returns
-returns c = record { tour = sided_end c.args.pen.step c.args.y _ _ _ c.if-more.false c.at_corners.ensures; made = lays_as (sides_end _ _ c.args.first _ _ c.if-more.false) lays_none }
+pub returns-else-more : goal.returns-else-more
+returns-else-more c = record { tour = sided_end c.args.pen.step c.args.y _ _ _ c.if-more.false c.at_corners.ensures; made = lays_as (sides_end _ _ c.args.first _ _ c.if-more.false) lays_none }

@@ -21,17 +21,17 @@ returns-then-bend-ge0 c =
     let k = centre_near (centre_of_lem c.centre-c.ensures h.2.around.b) in
     lays_as (corner_left _ _ _ _ c.centre-c.ensures (told c.bend.type_inv c.bend.ensures) c.if-bend-ge0.true) (lays_then (lays_two (near_left_a h.3) k k (near_left_b h.2) c.two-i.ensures) c.outer.ensures)
 
-pub two-i-requires-2 : goal.two-i-requires-2
-two-i-requires-2 c =
+pub two-i-requires-else-bend-ge0 : goal.two-i-requires-else-bend-ge0
+two-i-requires-else-bend-ge0 c =
     let h = c.requires.unit_long in
     let k = centre_near (centre_of_lem c.centre-c.ensures h.2.around.b) in record { near = (near_right_b h.2, k, k, near_right_a h.3); room = room_first _ _ (room_as (corner_right _ _ _ _ c.centre-c.ensures (told c.bend.type_inv c.bend.ensures) c.if-bend-ge0.false) c.requires.room) }
 
-pub outer-requires-2 : goal.outer-requires-2
-outer-requires-2 c =
-    let h = c.requires.unit_long in record { unit_long = (h.0, centre_of_lem c.centre-c.ensures h.2.around.b, h.1, off_shared (c.centre-c.ensures ∙ h.4) h.3.left_a, off_shared c.centre-c.ensures h.2.left_b); room = room_then _ c.two-i-2.ensures (room_as (corner_right _ _ _ _ c.centre-c.ensures (told c.bend.type_inv c.bend.ensures) c.if-bend-ge0.false) c.requires.room) }
+pub outer-requires-else-bend-ge0 : goal.outer-requires-else-bend-ge0
+outer-requires-else-bend-ge0 c =
+    let h = c.requires.unit_long in record { unit_long = (h.0, centre_of_lem c.centre-c.ensures h.2.around.b, h.1, off_shared (c.centre-c.ensures ∙ h.4) h.3.left_a, off_shared c.centre-c.ensures h.2.left_b); room = room_then _ c.two-i-else-bend-ge0.ensures (room_as (corner_right _ _ _ _ c.centre-c.ensures (told c.bend.type_inv c.bend.ensures) c.if-bend-ge0.false) c.requires.room) }
 
-pub returns : goal.returns
-returns c =
+pub returns-else-bend-ge0 : goal.returns-else-bend-ge0
+returns-else-bend-ge0 c =
     let h = c.requires.unit_long in
     let k = centre_near (centre_of_lem c.centre-c.ensures h.2.around.b) in
-    lays_as (corner_right _ _ _ _ c.centre-c.ensures (told c.bend.type_inv c.bend.ensures) c.if-bend-ge0.false) (lays_then (lays_two (near_right_b h.2) k k (near_right_a h.3) c.two-i-2.ensures) c.outer-2.ensures)
+    lays_as (corner_right _ _ _ _ c.centre-c.ensures (told c.bend.type_inv c.bend.ensures) c.if-bend-ge0.false) (lays_then (lays_two (near_right_b h.2) k k (near_right_a h.3) c.two-i-else-bend-ge0.ensures) c.outer-else-bend-ge0.ensures)

@@ -3,10 +3,10 @@ use mathlib.Core.Path.{sym, ap}
 use Rattle.kerb.specs.Tours.{held_of}
 use Rattle.kerb.proofs.touring.held.Goals as goal
 
-pub returns-in-Held : goal.returns-in-Held
+pub returns-in-Some : goal.returns-in-Some
 unfolding held_of
-returns-in-Held c = ap (λ e. held_of e c.args.s) (sym c.in-Held.is)
+returns-in-Some c = ap (λ e. held_of e c.args.s) (sym c.in-Some.is)
 
-pub returns-in-Nothing : goal.returns-in-Nothing
+pub returns-in-None : goal.returns-in-None
 unfolding held_of
-returns-in-Nothing c = ap (λ e. held_of e c.args.s) (sym c.in-Nothing.is)
+returns-in-None c = ap (λ e. held_of e c.args.s) (sym c.in-None.is)

@@ -7,10 +7,10 @@ use Rattle.kerb.proofs.touring.meet.Goals as goal
 pub corner-requires : goal.corner-requires
 corner-requires c =
     let h = c.requires.unit_long in
-    let k = joins_held _ c.in-Held.is h.2 in record { unit_long = (h.0, h.1.radius, k.0, h.3, k.1); room = room_as (meets_held _ _ c.in-Held.is _) c.requires.room }
+    let k = joins_held _ c.in-Some.is h.2 in record { unit_long = (h.0, h.1.radius, k.0, h.3, k.1); room = room_as (meets_held _ _ c.in-Some.is _) c.requires.room }
 
-pub returns-in-Held : goal.returns-in-Held
-returns-in-Held c = lays_as (meets_held _ _ c.in-Held.is _) c.corner.ensures
+pub returns-in-Some : goal.returns-in-Some
+returns-in-Some c = lays_as (meets_held _ _ c.in-Some.is _) c.corner.ensures
 
-pub returns-in-Nothing : goal.returns-in-Nothing
-returns-in-Nothing c = lays_as (meets_none _ _ c.in-Nothing.is _) lays_none
+pub returns-in-None : goal.returns-in-None
+returns-in-None c = lays_as (meets_none _ _ c.in-None.is _) lays_none

@@ -9,9 +9,9 @@ ahead-b-requires c =
 
 pub step-s-requires : goal.step-s-requires
 step-s-requires c =
-    let h = c.requires.lent in record { unit_long = (h.1, h.0.styled, piece_ready _ _ h.0 _ _ h.2 c.way_count-m.ensures c.point-first.ensures c.ahead-b.ensures); room = piece_fits _ _ h.0 _ _ h.2 c.way_count-m.ensures c.point-first.ensures c.ahead-b.ensures c.args.pen c.requires.room }
+    let h = c.requires.lent in record { unit_long = (h.1, h.0.styled, piece_ready _ _ h.0 _ _ h.2 c.way_count.ensures c.point-first.ensures c.ahead-b.ensures); room = piece_fits _ _ h.0 _ _ h.2 c.way_count.ensures c.point-first.ensures c.ahead-b.ensures c.args.pen c.requires.room }
 
 pub returns : goal.returns
 returns c =
     let h = c.requires.lent in
-    piece_told _ _ h.0 _ _ h.2 c.way_count-m.ensures c.point-first.ensures c.ahead-b.ensures c.args.pen c.ends.ensures c.step-s.ensures
+    piece_told _ _ h.0 _ _ h.2 c.way_count.ensures c.point-first.ensures c.ahead-b.ensures c.args.pen c.ends.ensures c.step-s.ensures

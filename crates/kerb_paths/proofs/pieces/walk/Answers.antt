@@ -1,31 +1,18 @@
 -- `kerb_paths::pieces::walk` meets its contract: what is left of the tour is drawn on, piece by piece. Assumes nothing.
 use mathlib.Core.Path.{refl, sym, ap, ◌∙◌}
 use Rattle.runs.proofs.Laws.{runs_none, runs_as, room_as}
-use Rattle.runs.proofs.Onward.{onward_start, onward_as, onward_done, onward_room}
-use Rattle.runs.proofs.Written.{written-length}
+use Rattle.runs.proofs.Onward.{onward_as, onward_done, onward_room}
 use Rattle.folds.proofs.Laid.{lays_plain}
 use Rattle.kerb.specs.Tours.{rest_of}
 use Rattle.kerb.proofs.TourKept.{rest_done, piece_room, piece_onward}
 use Rattle.kerb_paths.specs.Points.{kerb_path, first_of, way_of}
 use Rattle.kerb_paths.proofs.pieces.walk.Goals as goal
 
-pub first_tour-w-requires : goal.first_tour-w-requires
-first_tour-w-requires c = c.requires.lent.0
-
-pub loop-y-init : goal.loop-y-init
-loop-y-init c = (c.first_tour-w.ensures.touring, onward_start)
-
-pub done-requires : goal.done-requires
-done-requires c = tt
-
 pub piece-s-requires : goal.piece-s-requires
 piece-s-requires c =
     let vs = kerb_path c.args.y.radius c.args.points.now in
     let more = sym c.done.ensures ∙ c.loop-y-test.true in
     let room = room_as (ap (rest_of c.args.t c.args.y (first_of vs) (way_of c.args.y vs)) (sym c.first_tour-w.ensures.tour)) c.requires.room in record { lent = (c.requires.lent.0, c.requires.lent.1, c.loop-y.invariant.0); room = piece_room c.args.t c.args.y (first_of vs) (way_of c.args.y vs) c.loop-y.w more (onward_room c.loop-y.invariant.1 room) }
-
-pub loop-y-smaller : goal.loop-y-smaller
-loop-y-smaller c = c.piece-s.ensures.fewer (sym c.done.ensures ∙ c.loop-y-test.true)
 
 pub loop-y-preserved : goal.loop-y-preserved
 loop-y-preserved c =
@@ -39,6 +26,3 @@ returns c =
     let done = sym c.done.ensures ∙ c.loop-y-test.false in
     runs_as (ap (rest_of c.args.t c.args.y (first_of vs) (way_of c.args.y vs)) (sym c.first_tour-w.ensures.tour))
     (onward_done (onward_as (rest_done c.args.t c.args.y (first_of vs) (way_of c.args.y vs) c.loop-y.w done) c.loop-y.invariant.1) runs_none)
-
-pub shape_of-out : goal.shape_of-out
-shape_of-out c = written-length (returns c)

@@ -5,26 +5,11 @@ use Rattle.paths.proofs.PathWalk.{outside_skip, outside_here, outside_end}
 use Rattle.kerb_paths.specs.Points.{kerb_path}
 use Rattle.kerb_paths.proofs.points.first_outside.Goals as goal
 
-pub loop-k-init : goal.loop-k-init
-loop-k-init c = (omega arith, omega arith)
-
-pub point-requires : goal.point-requires
-point-requires c = omega arith
-
-pub allowed-requires : goal.allowed-requires
-allowed-requires c = tt
-
-pub overflow_add-k : goal.overflow_add-k
-overflow_add-k c = omega arith
-
-pub loop-k-smaller : goal.loop-k-smaller
-loop-k-smaller c = omega arith
-
 pub loop-k-preserved : goal.loop-k-preserved
-loop-k-preserved c = omega (arith, outside_skip (kerb_path c.args.y.radius c.args.points.now) c.loop-k.k (omega arith) c.point.ensures (sym c.allowed.ensures ∙ c.if-allowed.true))
+loop-k-preserved c = omega (arith, outside_skip (kerb_path c.args.y.radius c.args.points.now) c.loop-k.k (omega arith) c.point.ensures (sym c.allowed.ensures ∙ c.if-not-allowed.false))
 
-pub returns-else-allowed : goal.returns-else-allowed
-returns-else-allowed c = omega (arith, outside_here (kerb_path c.args.y.radius c.args.points.now) c.loop-k.k (omega arith) c.point.ensures (sym c.allowed.ensures ∙ c.if-allowed.false))
+pub returns-then-not-allowed : goal.returns-then-not-allowed
+returns-then-not-allowed c = omega (arith, outside_here (kerb_path c.args.y.radius c.args.points.now) c.loop-k.k (omega arith) c.point.ensures (sym c.allowed.ensures ∙ c.if-not-allowed.true))
 
 pub returns : goal.returns
 returns c = omega (arith, outside_end (kerb_path c.args.y.radius c.args.points.now) c.loop-k.k (omega arith))

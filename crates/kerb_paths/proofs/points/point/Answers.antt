@@ -25,6 +25,6 @@ bounds-points-i-2 c = omega (arith, point_count c.args.y.radius c.args.points.no
 
 pub returns : goal.returns
 returns c =
-    kerb_point_read c.args.y.radius c.args.points.now c.args.k c.wide-a.result c.wide-b.result (search rules) c.requires
-    (wide_read (record { sfits = c.wide-a.type_inv }) (record { sfits = search rules }) c.wide-a.ensures)
-    (wide_read (record { sfits = c.wide-b.type_inv }) (record { sfits = search rules }) c.wide-b.ensures)
+    kerb_point_read c.args.y.radius c.args.points.now c.args.k c.from.result c.from-2.result (search rules) c.requires
+    (wide_read (record { sfits = c.from.type_inv }) (record { sfits = search rules }) c.from.ensures)
+    (wide_read (record { sfits = c.from-2.type_inv }) (record { sfits = search rules }) c.from-2.ensures)

@@ -7,6 +7,6 @@ pub returns-then-y : goal.returns-then-y
 unfolding way_count
 returns-then-y c = ap (λ b. way_count b c.args.n) (sym c.if-y.true)
 
-pub returns : goal.returns
+pub returns-else-y : goal.returns-else-y
 unfolding way_count
-returns c = ap (λ b. way_count b c.args.n) (sym c.if-y.false)
+returns-else-y c = ap (λ b. way_count b c.args.n) (sym c.if-y.false)

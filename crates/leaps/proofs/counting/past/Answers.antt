@@ -9,5 +9,5 @@ returns-then-one c = omega (arith, size_none c.if-one.true)
 pub overflow_add-result : goal.overflow_add-result
 overflow_add-result c = omega (arith, size_some c.if-one.false, c.requires)
 
-pub returns : goal.returns
-returns c = omega (arith, size_some c.if-one.false)
+pub returns-else-one : goal.returns-else-one
+returns-else-one c = omega (arith, size_some c.if-one.false)

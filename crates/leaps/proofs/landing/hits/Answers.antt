@@ -2,7 +2,7 @@
 use Rattle.plane.proofs.Products.{short_back, small_back}
 use Rattle.plane.proofs.Directions.{unit_short}
 use Rattle.turning.proofs.Limits.{radius_told_lem}
-use Rattle.leaps.proofs.Landed.{hits_both, hits_none}
+use Rattle.leaps.proofs.Landed.{hits_both}
 use Rattle.leaps.proofs.landing.hits.Goals as goal
 
 pub meets-requires : goal.meets-requires
@@ -18,6 +18,3 @@ meets-requires-then-meets c =
 pub returns-then-meets : goal.returns-then-meets
 returns-then-meets c =
     hits_both _ _ c.requires.0 c.requires.1 c.meets.ensures c.if-meets.true c.meets-then-meets.ensures
-
-pub returns : goal.returns
-returns c = hits_none

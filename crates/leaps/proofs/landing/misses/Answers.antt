@@ -14,11 +14,11 @@ pub returns-then-passes : goal.returns-then-passes
 returns-then-passes c =
     misses_x _ _ c.requires.0 c.requires.1 c.passes.ensures c.if-passes.true
 
-pub passes-requires-2 : goal.passes-requires-2
-passes-requires-2 c =
+pub passes-requires-else-passes : goal.passes-requires-else-passes
+passes-requires-else-passes c =
     let h = c.requires in
     (small_back h.0.centre.y, radius_told_lem h.0.radius, short_back (unit_short h.1).y, h.2)
 
-pub returns : goal.returns
-returns c =
-    misses_y _ _ c.requires.0 c.requires.1 c.passes-2.ensures
+pub returns-else-passes : goal.returns-else-passes
+returns-else-passes c =
+    misses_y _ _ c.requires.0 c.requires.1 c.passes-else-passes.ensures

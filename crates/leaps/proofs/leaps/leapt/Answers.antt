@@ -1,7 +1,7 @@
 -- `leaps::leaps::leapt` meets its contract: each leap goes on from where the last came to. Assumes nothing.
 use native.Mathlib.Omega.{arith}
 use Rattle.turning.proofs.Limits.{next_unit}
-use Rattle.leaps.proofs.Leaping.{comes_start, leads_same, leads_then, leaps_eight}
+use Rattle.leaps.proofs.Leaping.{comes_start, leads_same, leaps_eight}
 use Rattle.leaps.proofs.leaps.leapt.Goals as goal
 
 pub rotated-two-requires : goal.rotated-two-requires
@@ -24,17 +24,11 @@ sway-far-requires c = c.requires.0.step
 pub loop-s-init : goal.loop-s-init
 loop-s-init c = leads_same c.requires.1 (omega arith) (omega arith)
 
-pub leap_on-n-requires : goal.leap_on-n-requires
-leap_on-n-requires c = record { turns = (c.requires.0, leaps_eight _ c.requires.0.step c.rotated-two.ensures c.rotated-four.ensures c.rotated-eight.ensures, c.sway-far.ensures, c.requires.2); unit_long = (c.loop-s.invariant.unit, omega (arith, c.loop-s-test.true), c.loop-s.invariant.off) }
-
-pub returns-then-n-s : goal.returns-then-n-s
-returns-then-n-s c = c.loop-s.invariant.comes _ c.requires.1 (comes_start _ _ _ c.requires.1)
-
-pub loop-s-smaller : goal.loop-s-smaller
-loop-s-smaller c = omega (arith, c.loop-s-test.true, c.leap_on-n.ensures.1, c.if-n-s.false)
-
-pub loop-s-preserved : goal.loop-s-preserved
-loop-s-preserved c = leads_then c.loop-s.invariant c.leap_on-n.ensures.0
+pub leap_on-requires : goal.leap_on-requires
+leap_on-requires c = record { turns = (c.requires.0, leaps_eight _ c.requires.0.step c.rotated-two.ensures c.rotated-four.ensures c.rotated-eight.ensures, c.sway-far.ensures, c.requires.2); unit_long = (c.loop-s.invariant.unit, omega (arith, c.loop-s-test.true), c.loop-s.invariant.off) }
 
 pub returns : goal.returns
 returns c = c.loop-s.invariant.comes _ c.requires.1 (comes_start _ _ _ c.requires.1)
+
+pub returns-in_default : goal.returns-in_default
+returns-in_default c = c.loop-s.invariant.comes _ c.requires.1 (comes_start _ _ _ c.requires.1)

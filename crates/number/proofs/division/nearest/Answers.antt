@@ -24,20 +24,6 @@ known c =
     let d = c.split-d.ensures in
     led _ _ _ _ _ _ _ _ s.requires.0 s.requires.1 s.requires.2 d.0 d.1 n.0 n.1 spared.few (one_or _ _ spared.many)
 
-pub overflow_mul-p : goal.overflow_mul-p
-overflow_mul-p c = record { fits = (known c.before).product }
-
-pub nonzero_div-q : goal.nonzero_div-q
-nonzero_div-q c = (known c.before.before).some
-
-pub nonzero_rem-p : goal.nonzero_rem-p
-nonzero_rem-p c = (known c.before.before.before).some
-
-pub lift-requires : goal.lift-requires
-lift-requires c =
-    let a = c.before.before.before in
-    (omega (arith, a.spare-t.ensures.short), omega (arith, (known a).rest, a.requires.3))
-
 -- what is known at the end
 abbrev Last : Type 0
 Last = After-struct_known-5-1
@@ -50,11 +36,6 @@ bound c = c.requires.3
 
 some : (c : Last) → 0 < c.args.den
 some c = c.requires.2
-
-pub overflow_mul-a : goal.overflow_mul-a
-overflow_mul-a c =
-    let a = c.before.before.before.before.before in
-    omega (arith, (known a).left, a.requires.3)
 
 pub overflow_add-a : goal.overflow_add-a
 overflow_add-a c =
@@ -73,20 +54,14 @@ overflow_add-den c = omega (arith, (end c).right, bound c)
 pub overflow_mul-a-2 : goal.overflow_mul-a-2
 overflow_mul-a-2 c = omega (arith, c.lift.ensures, (end c).left, (end c).rest, bound c)
 
-pub overflow_add-up : goal.overflow_add-up
-overflow_add-up c = record { fits = omega (arith, (end c.before).quo) }
-
-pub overflow_add-due : goal.overflow_add-due
-overflow_add-due c = record { fits = omega (arith, (end c.before).right, bound c.before) }
-
 pub returns-then-den-b : goal.returns-then-den-b
 returns-then-den-b c =
     let l = c.lift.ensures in
     let h = rw l at c.if-den-b.true in
     (up _ _ _ _ _ _ _ _ (end c.before) (pow_pos _) h, omega (arith, (end c.before).quo), rw l (up_exact _ _ _ _ _ _ _ _ (end c.before) (some c.before) h))
 
-pub returns : goal.returns
-returns c =
+pub returns-else-den-b : goal.returns-else-den-b
+returns-else-den-b c =
     let l = c.lift.ensures in
     let h = rw l at c.if-den-b.false in
     (same _ _ _ _ _ _ _ _ (end c.before) (pow_pos _) h, omega (arith, (end c.before).quo), rw l (same_exact _ _ _ _ _ _ _ _ (end c.before) (some c.before) h))

@@ -1,5 +1,6 @@
 -- `number::division::spare` meets its contract. Assumes nothing.
 use Rattle.std.proofs.Common.{◌≡◌, ℕ, suc, ◌+◌, ◌-◌, ◌^◌, ◌<◌, ◌≤◌, refl, inl, inr, lt_of_lt_of_le, arith, pow_mono, pow-add}
+use native.Mathlib.Decide.{dec_le}
 use lib.Count.{leading_top}
 use Rattle.number.specs.Division.{Spared}
 use Rattle.number.proofs.division.spare.Goals as goal
@@ -22,14 +23,11 @@ whole d z j e h u = record {
   short = omega arith;
 }
 
-pub returns-then-z-lt30 : goal.returns-then-z-lt30
-returns-then-z-lt30 c =
-    let s = c.before in
-    let top = leading_top 64 s.args.den s.requires s.ranges.den.fits in
-    cut _ _ top.0 top.1 c.if-z-lt30.true top.2 top.3
+either : (d z j : ℕ) → z + suc j ≡ 64 → 2 ^ j ≤ d → d < 2 ^ suc j → Dec (z < 30) → Spared d (30 - z)
+either d z j e l u (yes h) = cut d z j e h l u
+either d z j e l u (no h) = let n : 30 ≤ z = omega arith in let k : 30 - z ≡ 0 = omega arith in rw k (whole d z j e n u)
 
-pub returns-else-z-lt30 : goal.returns-else-z-lt30
-returns-else-z-lt30 c =
-    let s = c.before in
-    let top = leading_top 64 s.args.den s.requires s.ranges.den.fits in
-    whole _ _ top.0 top.1 c.if-z-lt30.false top.3
+pub returns : goal.returns
+returns c =
+    let top = leading_top 64 c.args.den c.requires c.ranges.den.fits in
+    rw c.saturating_sub.ensures (either _ _ top.0 top.1 top.2 top.3 (dec_le (suc _) 30))

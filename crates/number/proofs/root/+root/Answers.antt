@@ -15,23 +15,11 @@ bound t c = quarter_bound c.args.n c.root-q.result (quarter t c) c.ranges.n.fits
 square : (t : ℕ) (c : After-root-q t) → c.root-q.result * c.root-q.result ≤ (2 ^ 31 - 1) * (2 ^ 31 - 1)
 square t c = quarter_square c.root-q.result (bound t c)
 
-pub overflow_cast-w : goal.overflow_cast-w
-overflow_cast-w t c = omega (arith, bound t c)
-
 pub overflow_mul-r : goal.overflow_mul-r
 overflow_mul-r t c = omega (arith, bound t c)
 
-pub overflow_mul-w : goal.overflow_mul-w
-overflow_mul-w t c = omega (arith, square t c)
-
-pub overflow_add-w : goal.overflow_add-w
-overflow_add-w t c = omega (arith, square t c, bound t c)
-
 pub overflow_mul-w-2 : goal.overflow_mul-w-2
 overflow_mul-w-2 t c = omega (arith, square t c, bound t c)
-
-pub overflow_add-result : goal.overflow_add-result
-overflow_add-result t c = omega (arith, bound t c.before)
 
 pub returns-then-w-n : goal.returns-then-w-n
 returns-then-w-n t c = root_only _ _ (more _ _ (quarter t c.before) c.if-w-n.true)

@@ -5,7 +5,8 @@ use lib.Ieee.{Float, of_bits, neg, div, eq, ne, binary32, of_int}
 use mir.Facts.{to_z-of_z}
 use Rattle.oldest.specs.Floats.{has_fraction, magnitude_of, whole_of}
 use Rattle.oldest.specs.Taken.{whole_within}
-use Rattle.oldest.specs.declared.Taken.TheVariants.{Whole, TooLarge}
+use Rattle.std.specs.Prelude.{Ok, Err}
+use Rattle.oldest.specs.declared.NotTaken.TheVariants.{TooLarge}
 use Rattle.oldest.specs.Theorems.{Fits32}
 use Rattle.oldest.proofs.Tests.{nan_is, infinite_is, Finite, finite, no_nan, no_infinite, above, under, within, asks, truncated, in_i32, comes_back}
 use Rattle.oldest.proofs.Reasons.{first_nan, first_infinite, first_fraction, first_large, no_reason}
@@ -31,7 +32,7 @@ module _ (c : Else-x-3) where
   number = finite c.args.x c.if-x.false c.if-x-2.false c.if-x-3.false
 
   beyond : (has_fraction c.args.x ≡ false) × (536870912 < magnitude_of c.args.x)
-      → TooLarge c.args.x ≡ whole_within 536870912 c.args.x
+      → Err (TooLarge c.args.x) ≡ whole_within 536870912 c.args.x
   unfolding whole_within
   beyond h = first_large 536870912 c.args.x _ (no_nan _ number) (no_infinite _ number) h.0 h.1
 
@@ -89,5 +90,5 @@ returns-then-nearest_i32_to_f32-x c =
 pub returns : goal.returns
 unfolding whole_within
 returns c =
-    ap Whole (cut (goal.at.returns c).After-truncating_f32_to_i64-n)
+    ap Ok (cut (goal.at.returns c).After-truncating_f32_to_i64-n)
     ∙ no_reason _ c.args.x _ (record { number = no_nan _ (finite_x (goal.at.returns c).Else-x-5); finite = no_infinite _ (finite_x (goal.at.returns c).Else-x-5); whole = sym (fraction (goal.at.returns c).After-nearest_i32_to_f32) ∙ c.if-nearest_i32_to_f32-x.false; within = small (goal.at.returns c).Else-x-5 })

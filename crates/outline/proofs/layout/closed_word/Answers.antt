@@ -1,12 +1,14 @@
--- `outline::layout::closed_word` meets its contract: by each outcome of the test. Assumes nothing.
-use mathlib.Core.Path.{sym, ap}
+-- `outline::layout::closed_word` meets its contract: by each bool. Assumes nothing.
+use mathlib.Core.Bool.{Bool, true, false}
+use mathlib.Core.Path.{◌≡◌, refl, ◌∙◌}
+use mir.Val.{bool_byte}
 use Rattle.outline.specs.Outlines.{closed_word}
 use Rattle.outline.proofs.layout.closed_word.Goals as goal
 
-pub returns-then-closed : goal.returns-then-closed
+closed_byte : (b : Bool) → bool_byte b ≡ closed_word b
 unfolding closed_word
-returns-then-closed c = sym (ap closed_word c.if-closed.true)
+closed_byte false = refl
+closed_byte true = refl
 
-pub returns-else-closed : goal.returns-else-closed
-unfolding closed_word
-returns-else-closed c = sym (ap closed_word c.if-closed.false)
+pub returns : goal.returns
+returns c = c.from.ensures ∙ closed_byte c.args.closed

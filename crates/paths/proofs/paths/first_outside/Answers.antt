@@ -5,26 +5,11 @@ use Rattle.paths.specs.Paths.{path_of}
 use Rattle.paths.proofs.PathWalk.{outside_skip, outside_here, outside_end}
 use Rattle.paths.proofs.paths.first_outside.Goals as goal
 
-pub loop-k-init : goal.loop-k-init
-loop-k-init c = (omega arith, omega arith)
-
-pub vertex-requires : goal.vertex-requires
-vertex-requires c = omega arith
-
-pub allowed-requires : goal.allowed-requires
-allowed-requires c = tt
-
-pub overflow_add-k : goal.overflow_add-k
-overflow_add-k c = omega arith
-
-pub loop-k-smaller : goal.loop-k-smaller
-loop-k-smaller c = omega arith
-
 pub loop-k-preserved : goal.loop-k-preserved
-loop-k-preserved c = omega (arith, outside_skip (path_of c.args.path.now) c.loop-k.k (omega arith) c.vertex.ensures (sym c.allowed.ensures ∙ c.if-allowed.true))
+loop-k-preserved c = omega (arith, outside_skip (path_of c.args.path.now) c.loop-k.k (omega arith) c.vertex.ensures (sym c.allowed.ensures ∙ c.if-not-allowed.false))
 
-pub returns-else-allowed : goal.returns-else-allowed
-returns-else-allowed c = omega (arith, outside_here (path_of c.args.path.now) c.loop-k.k (omega arith) c.vertex.ensures (sym c.allowed.ensures ∙ c.if-allowed.false))
+pub returns-then-not-allowed : goal.returns-then-not-allowed
+returns-then-not-allowed c = omega (arith, outside_here (path_of c.args.path.now) c.loop-k.k (omega arith) c.vertex.ensures (sym c.allowed.ensures ∙ c.if-not-allowed.true))
 
 pub returns : goal.returns
 returns c = omega (arith, outside_end (path_of c.args.path.now) c.loop-k.k (omega arith))

@@ -1,13 +1,10 @@
 -- `paths::paths::first_outside` meets its contract: all before k are within; what is left of the path is passed over one by one. Assumes nothing.
 use mathlib.Core.Path.{◌≡◌}
-use Prim.Native.Nat.{◌+◌, ◌-◌, ◌≤◌}
+use Prim.Native.Nat.{◌+◌}
 use lib.ListN.{drop}
 use Rattle.contacts.specs.Limits.{first_outside}
 use Rattle.paths.specs.Paths.{path_of}
 use Rattle.paths.proofs.paths.first_outside.Given as goal
 
 abbrev pub invariant-loop-k : goal.invariant-loop-k
-invariant-loop-k l = (l.k ≤ l.n) × (first_outside (path_of l.path) ≡ l.k + first_outside (drop l.k (path_of l.path)))
-
-abbrev pub decreases-loop-k : goal.decreases-loop-k
-decreases-loop-k l = l.n - l.k
+invariant-loop-k l = first_outside (path_of l.path) ≡ l.k + first_outside (drop l.k (path_of l.path))

@@ -1,5 +1,4 @@
 -- `paths::paths::go_on` meets its contract: what is left of the path is drawn on, step by step, by a walk that stays within the limits. Assumes nothing.
-use Prim.Native.Nat.{◌-◌, ◌≤◌}
 use lib.ListN.{drop}
 use Rattle.turning.specs.Edges.{edge_numbers}
 use Rattle.runs.proofs.Onward.{Onward}
@@ -10,7 +9,4 @@ use Rattle.paths.proofs.paths.go_on.Given as goal
 
 abbrev pub invariant-loop-k : goal.invariant-loop-k
 invariant-loop-k l =
-    (l.k ≤ l.n) × AroundWalk l.w × Onward put edge_numbers l.initial.out l.initial.at (joined (bodies_from l.t l.initial.w (drop l.initial.k (path_of l.path)))) l.out l.at (joined (bodies_from l.t l.w (drop l.k (path_of l.path))))
-
-abbrev pub decreases-loop-k : goal.decreases-loop-k
-decreases-loop-k l = l.n - l.k
+    AroundWalk l.w × Onward put edge_numbers l.initial.out l.initial.at (joined (bodies_from l.t l.initial.w (drop l.initial.k (path_of l.path)))) l.out l.at (joined (bodies_from l.t l.w (drop l.k (path_of l.path))))

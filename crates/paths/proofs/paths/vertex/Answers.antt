@@ -33,7 +33,7 @@ bounds-path-i-3 c = omega (arith, path_count c.args.path.now, c.requires)
 
 pub returns : goal.returns
 returns c =
-    vertex_read c.args.path.now c.args.k c.wide-x.result c.wide-y.result c.wide-radius.result c.requires
-    (wide_read (record { sfits = c.wide-x.type_inv }) (record { sfits = search rules }) c.wide-x.ensures)
-    (wide_read (record { sfits = c.wide-y.type_inv }) (record { sfits = search rules }) c.wide-y.ensures)
-    (wide_read (record { sfits = c.wide-radius.type_inv }) (record { sfits = search rules }) c.wide-radius.ensures)
+    vertex_read c.args.path.now c.args.k c.from.result c.from-2.result c.from-3.result c.requires
+    (wide_read (record { sfits = c.from.type_inv }) (record { sfits = search rules }) c.from.ensures)
+    (wide_read (record { sfits = c.from-2.type_inv }) (record { sfits = search rules }) c.from-2.ensures)
+    (wide_read (record { sfits = c.from-3.type_inv }) (record { sfits = search rules }) c.from-3.ensures)

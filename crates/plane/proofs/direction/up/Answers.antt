@@ -1,7 +1,6 @@
 -- `plane::direction::up` meets its contract. Assumes nothing.
 use mathlib.Core.Path.{sym, ◌∙◌}
 use Prim.Native.Nat.{◌+◌, ◌*◌, ◌^◌, ◌≤◌}
-use native.Mathlib.Omega.{arith}
 use borrow.Author.Tests.{leb-true, leb-false}
 use Rattle.plane.proofs.Directions.{part_only, part_most}
 use Rattle.plane.proofs.direction.up.Goals.{In-loop-n}
@@ -16,24 +15,6 @@ next c = leb-true _ _ (sym c.within.ensures ∙ c.loop-n-test.true)
 
 most : (c : In-loop-n) → c.loop-n.n + 1 ≤ 2 ^ 30
 most c = let s = c.before.before.before in part_most _ _ _ s.requires.4 s.requires.3 (next c)
-
-pub loop-n-init : goal.loop-n-init
-loop-n-init c = (c.requires.0, c.requires.1)
-
-pub overflow_add-n : goal.overflow_add-n
-overflow_add-n c = omega (arith, c.loop-n.invariant.0)
-
-pub within-requires : goal.within-requires
-within-requires c = (omega (arith, c.loop-n.invariant.0), omega (arith, c.requires.2))
-
-pub overflow_add-n-in-loop-n : goal.overflow_add-n-in-loop-n
-overflow_add-n-in-loop-n c = omega (arith, most c)
-
-pub loop-n-smaller : goal.loop-n-smaller
-loop-n-smaller c = omega (arith, most c)
-
-pub loop-n-preserved : goal.loop-n-preserved
-loop-n-preserved c = (most c, next c)
 
 pub returns : goal.returns
 returns c =

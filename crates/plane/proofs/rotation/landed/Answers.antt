@@ -1,29 +1,20 @@
 -- `plane::rotation::landed` meets its contract: the whole coordinate goes past the shift, and the rest is what `scaled` gives. Assumes nothing.
 use native.Mathlib.Omega.{arith}
 use Rattle.plane.proofs.Products.{small_back}
-use Rattle.plane.proofs.Shifts.{part_short, radius_short, product_size}
+use Rattle.plane.proofs.Shifts.{product_size}
 use Rattle.plane.proofs.Swinging.{landed_minus_back, landed_plus_back}
 use Rattle.plane.proofs.rotation.landed.Goals as goal
 
-pub times-p-requires : goal.times-p-requires
-times-p-requires c = (part_short c.args.d _ c.requires.2 c.requires.3, radius_short c.args.d _ c.requires.2 c.requires.3)
-
 pub lowered-requires : goal.lowered-requires
 lowered-requires c =
-    let s = c.before.before in
-    (small_back s.requires.0, product_size s.args.d _ s.requires.2 s.requires.3 c.times-p.ensures, record { size = omega arith })
+    (small_back c.requires.0, product_size c.args.d _ c.requires.2 c.requires.3 c.times-p.ensures, record { size = omega arith })
 
 pub returns-then-z-lt0 : goal.returns-then-z-lt0
 returns-then-z-lt0 c =
     let s = c.before.before.before in
     landed_minus_back _ _ _ _ s.requires.0 s.requires.1 s.requires.2 s.requires.3 s.ranges.z c.times-p.ensures c.if-z-lt0.true c.lowered.ensures (record { sfits = c.lowered.type_inv })
 
-pub lowered-requires-2 : goal.lowered-requires-2
-lowered-requires-2 c =
-    let s = c.before.before in
-    (small_back s.requires.0, product_size s.args.d _ s.requires.2 s.requires.3 c.times-p.ensures, record { size = omega arith })
-
-pub returns : goal.returns
-returns c =
+pub returns-else-z-lt0 : goal.returns-else-z-lt0
+returns-else-z-lt0 c =
     let s = c.before.before.before in
-    landed_plus_back _ _ _ _ s.requires.0 s.requires.1 s.requires.2 s.requires.3 s.ranges.z c.times-p.ensures c.if-z-lt0.false c.lowered-2.ensures (record { sfits = c.lowered-2.type_inv })
+    landed_plus_back _ _ _ _ s.requires.0 s.requires.1 s.requires.2 s.requires.3 s.ranges.z c.times-p.ensures c.if-z-lt0.false c.lowered-else-z-lt0.ensures (record { sfits = c.lowered-else-z-lt0.type_inv })

@@ -10,8 +10,5 @@ left c = factor_back c.requires.0 c.low.ensures
 right : (c : After-low-2) → bits c.low-2.result ≡ c.args.b
 right c = factor_back c.requires.1 c.low-2.ensures
 
-pub overflow_mul-result : goal.overflow_mul-result
-overflow_mul-result c = rw (left c, right c) (product_fits c.requires.0 c.requires.1)
-
 pub returns : goal.returns
 returns c = rw (left c, right c) (back (product_fits c.requires.0 c.requires.1))

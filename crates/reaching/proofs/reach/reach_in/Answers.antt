@@ -1,14 +1,14 @@
--- `reaching::reach::reach_in` meets its contract: the row of the index, and then the reach in the path at the front of the numbers. Assumes nothing.
-use native.Mathlib.Nat.{sub-zero}
+-- `reaching::reach::reach_in` meets its contract: the row of the index, and then the reach. Assumes nothing.
 use native.Mathlib.Omega.{arith}
-use Rattle.reaching.proofs.StoreReach.{index_refused, front_held, front_told}
+use Rattle.paths.proofs.PathWalk.{path_count}
+use Rattle.reaching.proofs.StoreReach.{index_refused, index_passed}
 use Rattle.reaching.proofs.reach.reach_in.Goals as goal
 
 pub returns-then-n-index : goal.returns-then-n-index
-returns-then-n-index c = index_refused _ _ _ (omega (arith, c.if-n-index.true))
+returns-then-n-index c = index_refused _ _ _ (omega (arith, path_count c.args.path.now))
 
-pub reached-j-requires : goal.reached-j-requires
-reached-j-requires c = front_held _ _ _ (sub-zero _) (omega (arith, c.if-n-index.false)) c.requires.0 c.requires.1
+pub reached-requires : goal.reached-requires
+reached-requires c = (omega (arith, path_count c.args.path.now), c.requires)
 
 pub returns : goal.returns
-returns c = front_told _ _ _ (sub-zero _) (omega (arith, c.if-n-index.false)) c.reached-j.ensures
+returns c = index_passed _ _ _ (omega (arith, path_count c.args.path.now)) c.reached.ensures

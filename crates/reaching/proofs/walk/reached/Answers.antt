@@ -1,9 +1,9 @@
 -- `reaching::walk::reached` meets its contract: the reach where it lies in the path, else the number of vertices. Assumes nothing.
-use Rattle.reaching.proofs.Reaches.{told_inside, told_none}
+use mathlib.Core.Path.{sym, ◌∙◌}
+use Rattle.paths.specs.Paths.{path_of}
+use Rattle.paths.proofs.PathWalk.{path_count}
+use Rattle.reaching.proofs.Reaches.{told}
 use Rattle.reaching.proofs.walk.reached.Goals as goal
 
-pub returns-then-j-n : goal.returns-then-j-n
-returns-then-j-n c = told_inside _ _ c.reach_within-j.ensures c.requires.1 c.if-j-n.true
-
-pub returns-else-j-n : goal.returns-else-j-n
-returns-else-j-n c = told_none _ _ c.reach_within-j.ensures c.requires.1 c.if-j-n.false
+pub returns : goal.returns
+returns c = c.unwrap_or.ensures ∙ told (path_of c.args.path.now) c.args.k c.reach_within.result (sym (path_count c.args.path.now)) c.reach_within.ensures

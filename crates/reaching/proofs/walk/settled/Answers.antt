@@ -1,16 +1,12 @@
 -- `reaching::walk::settled` meets its contract: one kind a case. Assumes nothing.
 use borrow.Author.Rules.{rules}
 use Rattle.locality.specs.Local.{settles}
+use Rattle.reaching.proofs.Reaches.{settles_some}
 use Rattle.reaching.proofs.walk.settled.Goals as goal
 
 pub returns-in-Broken : goal.returns-in-Broken
-unfolding settles
-returns-in-Broken c = search rules
+returns-in-Broken c = settles_some c.in-Broken.is
 
-pub returns-in-Drawn : goal.returns-in-Drawn
+pub returns-in_default : goal.returns-in_default
 unfolding settles
-returns-in-Drawn c = search rules
-
-pub returns-in-Thin : goal.returns-in-Thin
-unfolding settles
-returns-in-Thin c = search rules
+returns-in_default c = search rules

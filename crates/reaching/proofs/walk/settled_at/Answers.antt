@@ -2,7 +2,7 @@
 use native.Mathlib.Omega.{arith}
 use Rattle.paths.specs.Paths.{path_of}
 use Rattle.paths.proofs.PathWalk.{path_count}
-use Rattle.reaching.proofs.Reaches.{inside_at, settles_of}
+use Rattle.reaching.proofs.Reaches.{inside_at}
 use Rattle.reaching.proofs.walk.settled_at.Goals as goal
 
 pub overflow_add-i : goal.overflow_add-i
@@ -13,6 +13,3 @@ kind-requires c = (
   inside_at (path_of c.args.path.now) c.args.i c.requires.1 (omega arith) c.vertex-a.ensures,
   inside_at (path_of c.args.path.now) _ c.requires.1 c.requires.0 c.vertex-b.ensures,
 )
-
-pub returns : goal.returns
-returns c = settles_of c.settled.ensures c.kind.ensures c.vertex-a.ensures c.vertex-b.ensures

@@ -3,10 +3,10 @@ use mathlib.Core.Path.{sym, ap}
 use Rattle.reasons.specs.Lists.{end_reason}
 use Rattle.reasons.proofs.counts.end_reason.Goals as goal
 
-pub returns-in-Held : goal.returns-in-Held
+pub returns-in-Some : goal.returns-in-Some
 unfolding end_reason
-returns-in-Held c = ap end_reason (sym c.in-Held.is)
+returns-in-Some c = ap end_reason (sym c.in-Some.is)
 
-pub returns-in-Nothing : goal.returns-in-Nothing
+pub returns-in-None : goal.returns-in-None
 unfolding end_reason
-returns-in-Nothing c = ap end_reason (sym c.in-Nothing.is)
+returns-in-None c = ap end_reason (sym c.in-None.is)

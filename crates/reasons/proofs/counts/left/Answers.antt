@@ -17,5 +17,5 @@ returns-then-left_turns c = c.about.ensures ∙ ap length (sym (left_arc _ _ _ c
 pub side-requires : goal.side-requires
 side-requires c = let h = c.requires in (contact_near h.2.a h.2.left_a, contact_near h.1.b h.1.left_b)
 
-pub returns : goal.returns
-returns c = c.side.ensures ∙ ap length (sym (left_edge _ _ _ c.left_turns.ensures c.if-left_turns.false))
+pub returns-else-left_turns : goal.returns-else-left_turns
+returns-else-left_turns c = c.side.ensures ∙ ap length (sym (left_edge _ _ _ c.left_turns.ensures c.if-left_turns.false))

@@ -17,5 +17,5 @@ returns-then-right_turns c = c.about.ensures ∙ ap length (sym (right_arc _ _ _
 pub side-requires : goal.side-requires
 side-requires c = let h = c.requires in (contact_near h.1.b h.1.right_b, contact_near h.2.a h.2.right_a)
 
-pub returns : goal.returns
-returns c = c.side.ensures ∙ ap length (sym (right_edge _ _ _ c.right_turns.ensures c.if-right_turns.false))
+pub returns-else-right_turns : goal.returns-else-right_turns
+returns-else-right_turns c = c.side.ensures ∙ ap length (sym (right_edge _ _ _ c.right_turns.ensures c.if-right_turns.false))

@@ -9,8 +9,8 @@ use Rattle.reasons.proofs.explain.explain_path.Goals as goal
 pub returns-then-edge-ge4294967296 : goal.returns-then-edge-ge4294967296
 returns-then-edge-ge4294967296 c = explained_none (whys_of c.args.grade (path_of c.args.path.now)) c.args.edge (omega (arith, whys_few c.args.grade (path_of c.args.path.now) c.requires.1, c.if-edge-ge4294967296.true))
 
-pub returns-then-numbers-from : goal.returns-then-numbers-from
-returns-then-numbers-from c = explained_none (whys_of c.args.grade (path_of c.args.path.now)) c.args.edge (omega (arith, c.list_path-numbers.ensures.count, c.if-numbers-from.true))
+pub returns-then-list_path-from : goal.returns-then-list_path-from
+returns-then-list_path-from c = explained_none (whys_of c.args.grade (path_of c.args.path.now)) c.args.edge (omega (arith, c.list_path.ensures.count, c.if-list_path-from.true))
 
 pub returns : goal.returns
-returns c = explained_edge (whys_of c.args.grade (path_of c.args.path.now)) c.args.edge c.args.one.now c.requires.2 (omega (arith, c.list_path-numbers.ensures.count, c.if-numbers-from.false)) c.list_path-numbers.ensures.told refl refl refl c.named-reason.ensures refl refl
+returns c = explained_edge (whys_of c.args.grade (path_of c.args.path.now)) c.args.edge c.args.one.now c.requires.2 (omega (arith, c.list_path.ensures.count, c.if-list_path-from.false)) c.list_path.ensures.told refl refl refl c.named.ensures refl refl

@@ -1,27 +1,38 @@
--- `reasons::explain::named` meets its contract: each number is tested for in turn. Assumes nothing.
-use Rattle.reasons.proofs.OneEdge.{named_0, named_1, named_2, named_3, named_4, named_5, named_6, named_7}
+-- `reasons::explain::named` meets its contract: each number has its reason. Assumes nothing.
+use mathlib.Core.Path.{ap, sym}
+use Rattle.reasons.specs.Lists.{reason_of}
+use native.Mathlib.Omega.{arith}
+use Rattle.reasons.proofs.OneEdge.{named_last}
 use Rattle.reasons.proofs.explain.named.Goals as goal
 
-pub returns-then-n-eq0 : goal.returns-then-n-eq0
-returns-then-n-eq0 c = named_0 _ _ c.if-n-eq0.true
+pub returns-in-0 : goal.returns-in-0
+unfolding reason_of
+returns-in-0 c = ap (λ n. reason_of n c.args.exact) (sym c.in-0.is)
 
-pub returns-then-n-eq1 : goal.returns-then-n-eq1
-returns-then-n-eq1 c = named_1 _ _ c.if-n-eq0.false c.if-n-eq1.true
+pub returns-in-1 : goal.returns-in-1
+unfolding reason_of
+returns-in-1 c = ap (λ n. reason_of n c.args.exact) (sym c.in-1.is)
 
-pub returns-then-n-eq2 : goal.returns-then-n-eq2
-returns-then-n-eq2 c = named_2 _ _ c.if-n-eq0.false c.if-n-eq1.false c.if-n-eq2.true
+pub returns-in-2 : goal.returns-in-2
+unfolding reason_of
+returns-in-2 c = ap (λ n. reason_of n c.args.exact) (sym c.in-2.is)
 
-pub returns-then-n-eq3 : goal.returns-then-n-eq3
-returns-then-n-eq3 c = named_3 _ _ c.if-n-eq0.false c.if-n-eq1.false c.if-n-eq2.false c.if-n-eq3.true
+pub returns-in-3 : goal.returns-in-3
+unfolding reason_of
+returns-in-3 c = ap (λ n. reason_of n c.args.exact) (sym c.in-3.is)
 
-pub returns-then-n-eq4 : goal.returns-then-n-eq4
-returns-then-n-eq4 c = named_4 _ _ c.if-n-eq0.false c.if-n-eq1.false c.if-n-eq2.false c.if-n-eq3.false c.if-n-eq4.true
+pub returns-in-4 : goal.returns-in-4
+unfolding reason_of
+returns-in-4 c = ap (λ n. reason_of n c.args.exact) (sym c.in-4.is)
 
-pub returns-then-n-eq5 : goal.returns-then-n-eq5
-returns-then-n-eq5 c = named_5 _ _ c.if-n-eq0.false c.if-n-eq1.false c.if-n-eq2.false c.if-n-eq3.false c.if-n-eq4.false c.if-n-eq5.true
+pub returns-in-5 : goal.returns-in-5
+unfolding reason_of
+returns-in-5 c = ap (λ n. reason_of n c.args.exact) (sym c.in-5.is)
 
-pub returns-then-n-eq6 : goal.returns-then-n-eq6
-returns-then-n-eq6 c = named_6 _ _ c.if-n-eq0.false c.if-n-eq1.false c.if-n-eq2.false c.if-n-eq3.false c.if-n-eq4.false c.if-n-eq5.false c.if-n-eq6.true
+pub returns-in-6 : goal.returns-in-6
+unfolding reason_of
+returns-in-6 c = ap (λ n. reason_of n c.args.exact) (sym c.in-6.is)
 
-pub returns : goal.returns
-returns c = named_7 _ _ c.if-n-eq0.false c.if-n-eq1.false c.if-n-eq2.false c.if-n-eq3.false c.if-n-eq4.false c.if-n-eq5.false c.if-n-eq6.false
+pub returns-in_default : goal.returns-in_default
+returns-in_default c =
+    named_last _ _ (λ e. omega arith) (λ e. omega arith) (λ e. omega arith) (λ e. omega arith) (λ e. omega arith) (λ e. omega arith) (λ e. omega arith)

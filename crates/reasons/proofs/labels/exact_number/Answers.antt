@@ -1,12 +1,14 @@
 -- `reasons::labels::exact_number` meets its contract: 1 if exact, else 0. Assumes nothing.
-use borrow.Author.Rules.{rules}
+use mathlib.Core.Path.{◌≡◌, refl, ◌∙◌}
+use mathlib.Core.Bool.{Bool, true, false}
+use mir.Val.{bool_byte}
 use Rattle.reasons.specs.Lists.{exact_number}
 use Rattle.reasons.proofs.labels.exact_number.Goals as goal
 
-pub returns-then-exact : goal.returns-then-exact
+byte_told : (x : Bool) → bool_byte x ≡ exact_number x
 unfolding exact_number
-returns-then-exact c = search rules
+byte_told true = refl
+byte_told false = refl
 
-pub returns-else-exact : goal.returns-else-exact
-unfolding exact_number
-returns-else-exact c = search rules
+pub returns : goal.returns
+returns c = c.from.ensures ∙ byte_told c.args.exact

@@ -1,5 +1,9 @@
 -- `reasons::labels::exactness` meets its contract: a side's own, and none with any other reason. Assumes nothing.
-use mathlib.Core.Path.{sym, ap}
+use mathlib.Core.Path.{◌≡◌, refl}
+use mathlib.Core.Bool.{false}
+use Rattle.contacts.specs.declared.Exactness.{Exactness}
+use Rattle.reasons.specs.declared.Reason.{Reason}
+use Rattle.reasons.specs.declared.Reason.TheVariants.{LeftSide, RightSide, StartCap, EndCap, LeftJoin, RightJoin, Gap, Circle}
 use borrow.Author.Rules.{rules}
 use Rattle.reasons.specs.Reasons.{exactness_of}
 use Rattle.reasons.proofs.labels.exactness.Goals as goal
@@ -8,30 +12,20 @@ pub returns-in-LeftSide : goal.returns-in-LeftSide
 unfolding exactness_of
 returns-in-LeftSide c = search rules
 
-pub returns-in-RightSide : goal.returns-in-RightSide
+pub returns-in-LeftSide-2 : goal.returns-in-LeftSide-2
 unfolding exactness_of
-returns-in-RightSide c = search rules
+returns-in-LeftSide-2 c = search rules
 
-pub returns-in-StartCap : goal.returns-in-StartCap
+none_told : (r : Reason) → ((x : Exactness) → r ≡ LeftSide x → ⊥) → ((x : Exactness) → r ≡ RightSide x → ⊥) → record { a = false; b = false } ≡ exactness_of r
 unfolding exactness_of
-returns-in-StartCap c = ap exactness_of (sym c.in-StartCap.is)
+none_told (LeftSide x) h k = absurd (h x refl)
+none_told (RightSide x) h k = absurd (k x refl)
+none_told StartCap h k = refl
+none_told EndCap h k = refl
+none_told LeftJoin h k = refl
+none_told RightJoin h k = refl
+none_told Gap h k = refl
+none_told Circle h k = refl
 
-pub returns-in-EndCap : goal.returns-in-EndCap
-unfolding exactness_of
-returns-in-EndCap c = ap exactness_of (sym c.in-EndCap.is)
-
-pub returns-in-LeftJoin : goal.returns-in-LeftJoin
-unfolding exactness_of
-returns-in-LeftJoin c = ap exactness_of (sym c.in-LeftJoin.is)
-
-pub returns-in-RightJoin : goal.returns-in-RightJoin
-unfolding exactness_of
-returns-in-RightJoin c = ap exactness_of (sym c.in-RightJoin.is)
-
-pub returns-in-Gap : goal.returns-in-Gap
-unfolding exactness_of
-returns-in-Gap c = ap exactness_of (sym c.in-Gap.is)
-
-pub returns-in-Circle : goal.returns-in-Circle
-unfolding exactness_of
-returns-in-Circle c = ap exactness_of (sym c.in-Circle.is)
+pub returns-in_default : goal.returns-in_default
+returns-in_default c = none_told _ c.in_default.not-LeftSide c.in_default.not-RightSide

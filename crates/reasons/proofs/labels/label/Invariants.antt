@@ -1,5 +1,5 @@
 -- `reasons::labels::label` meets its contract: place after place until none is left. Assumes nothing.
-use Prim.Native.Nat.{◌-◌, ◌≤◌}
+use Prim.Native.Nat.{◌-◌}
 use Rattle.runs.proofs.Onward.{Onward}
 use Rattle.reasons.specs.Reasons.{places_from}
 use Rattle.reasons.specs.Lists.{why_numbers, put_past}
@@ -7,7 +7,4 @@ use Rattle.reasons.proofs.labels.label.Given as goal
 
 abbrev pub invariant-loop-place : goal.invariant-loop-place
 invariant-loop-place l =
-    (l.place ≤ l.count) × Onward (put_past l.from) why_numbers l.initial.out l.initial.i (places_from l.reason l.vertex l.initial.place (l.count - l.initial.place)) l.out l.i (places_from l.reason l.vertex l.place (l.count - l.place))
-
-abbrev pub decreases-loop-place : goal.decreases-loop-place
-decreases-loop-place l = l.count - l.place
+    Onward (put_past l.from) why_numbers l.initial.out l.initial.i (places_from l.reason l.vertex l.initial.place (l.count - l.initial.place)) l.out l.i (places_from l.reason l.vertex l.place (l.count - l.place))

@@ -5,7 +5,7 @@ use Rattle.reasons.proofs.Whys.{finish_whys}
 use Rattle.reasons.proofs.listing.finish_whys.Goals as goal
 
 pub label-requires : goal.label-requires
-label-requires c = places_room _ _ _ (room_as (finish_whys c.args.v c.args.t c.args.chain c.args.cap c.end_reason-reason.ensures c.finish-n.ensures) c.requires.room)
+label-requires c = places_room _ _ _ (room_as (finish_whys c.args.v c.args.t c.args.chain c.args.cap c.end_reason.ensures c.finish-n.ensures) c.requires.room)
 
 pub returns : goal.returns
-returns c = runs_as (finish_whys c.args.v c.args.t c.args.chain c.args.cap c.end_reason-reason.ensures c.finish-n.ensures) c.label.ensures
+returns c = runs_as (finish_whys c.args.v c.args.t c.args.chain c.args.cap c.end_reason.ensures c.finish-n.ensures) c.label.ensures

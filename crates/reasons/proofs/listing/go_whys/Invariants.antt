@@ -1,5 +1,4 @@
 -- `reasons::listing::go_whys` meets its contract: body after body by a walk that stays within the limits, then the closing body. Assumes nothing.
-use Prim.Native.Nat.{◌-◌, ◌≤◌}
 use lib.ListN.{drop}
 use Rattle.runs.proofs.Onward.{Onward}
 use Rattle.variable_stroke.specs.Bounds.{AroundWalk}
@@ -10,7 +9,4 @@ use Rattle.reasons.proofs.listing.go_whys.Given as goal
 
 abbrev pub invariant-loop-k : goal.invariant-loop-k
 invariant-loop-k l =
-    (l.k ≤ l.n) × AroundWalk l.w × Onward (put_past l.from) why_numbers l.initial.out l.initial.at (whys_from l.initial.k (pieces_from l.t l.initial.w (drop l.initial.k (path_of l.path)))) l.out l.at (whys_from l.k (pieces_from l.t l.w (drop l.k (path_of l.path))))
-
-abbrev pub decreases-loop-k : goal.decreases-loop-k
-decreases-loop-k l = l.n - l.k
+    AroundWalk l.w × Onward (put_past l.from) why_numbers l.initial.out l.initial.at (whys_from l.initial.k (pieces_from l.t l.initial.w (drop l.initial.k (path_of l.path)))) l.out l.at (whys_from l.k (pieces_from l.t l.w (drop l.k (path_of l.path))))

@@ -1,4 +1,5 @@
 -- `reasons::listing::join_whys` meets its contract: about one centre left and then right, else the gap. Assumes nothing.
+use Rattle.plane.proofs.Products.{same_told as points_told}
 use mathlib.Core.Path.{refl}
 use Rattle.runs.proofs.Laws.{runs_as, runs_then, room_first, room_then, room_as}
 use Rattle.joins.proofs.CapsAndJoins.{centres_told}
@@ -7,25 +8,22 @@ use Rattle.reasons.proofs.Whys.{join_whys_met, join_whys_gap}
 use Rattle.reasons.proofs.listing.join_whys.Goals as goal
 
 pub left-n-requires : goal.left-n-requires
-left-n-requires c = (c.requires.unit_long.0, c.requires.unit_long.1, c.requires.unit_long.2, (centres_told _ _ c.centre.ensures c.centre-2.ensures c.same.ensures c.if-same.true))
+left-n-requires c = (c.requires.unit_long.0, c.requires.unit_long.1, c.requires.unit_long.2, (centres_told _ _ c.centre.ensures c.centre-2.ensures (points_told _ _ c.eq.ensures) c.if-eq.true))
 
 pub label-i-requires : goal.label-i-requires
-label-i-requires c = places_room _ _ _ (room_first _ _ (room_as (join_whys_met c.args.v c.args.t c.args.prev c.args.next (centres_told _ _ c.centre.ensures c.centre-2.ensures c.same.ensures c.if-same.true) c.left-n.ensures refl) c.requires.room))
+label-i-requires c = places_room _ _ _ (room_first _ _ (room_as (join_whys_met c.args.v c.args.t c.args.prev c.args.next (centres_told _ _ c.centre.ensures c.centre-2.ensures (points_told _ _ c.eq.ensures) c.if-eq.true) c.left-n.ensures refl) c.requires.room))
 
 pub right-m-requires : goal.right-m-requires
-right-m-requires c = (c.requires.unit_long.0, c.requires.unit_long.1, c.requires.unit_long.2, (centres_told _ _ c.centre.ensures c.centre-2.ensures c.same.ensures c.if-same.true))
+right-m-requires c = (c.requires.unit_long.0, c.requires.unit_long.1, c.requires.unit_long.2, (centres_told _ _ c.centre.ensures c.centre-2.ensures (points_told _ _ c.eq.ensures) c.if-eq.true))
 
 pub label-requires : goal.label-requires
-label-requires c = places_room _ _ _ (room_then _ c.label-i.ensures (room_as (join_whys_met c.args.v c.args.t c.args.prev c.args.next (centres_told _ _ c.centre.ensures c.centre-2.ensures c.same.ensures c.if-same.true) c.left-n.ensures c.right-m.ensures) c.requires.room))
+label-requires c = places_room _ _ _ (room_then _ c.label-i.ensures (room_as (join_whys_met c.args.v c.args.t c.args.prev c.args.next (centres_told _ _ c.centre.ensures c.centre-2.ensures (points_told _ _ c.eq.ensures) c.if-eq.true) c.left-n.ensures c.right-m.ensures) c.requires.room))
 
-pub returns-then-same : goal.returns-then-same
-returns-then-same c = runs_as (join_whys_met c.args.v c.args.t c.args.prev c.args.next (centres_told _ _ c.centre.ensures c.centre-2.ensures c.same.ensures c.if-same.true) c.left-n.ensures c.right-m.ensures) (runs_then c.label-i.ensures c.label.ensures)
+pub returns-then-eq : goal.returns-then-eq
+returns-then-eq c = runs_as (join_whys_met c.args.v c.args.t c.args.prev c.args.next (centres_told _ _ c.centre.ensures c.centre-2.ensures (points_told _ _ c.eq.ensures) c.if-eq.true) c.left-n.ensures c.right-m.ensures) (runs_then c.label-i.ensures c.label.ensures)
 
-pub across-n-requires : goal.across-n-requires
-across-n-requires c = c.requires.unit_long
+pub label-requires-else-eq : goal.label-requires-else-eq
+label-requires-else-eq c = places_room _ _ _ (room_as (join_whys_gap c.args.v c.args.t c.args.prev c.args.next (centres_told _ _ c.centre.ensures c.centre-2.ensures (points_told _ _ c.eq.ensures) c.if-eq.false) c.across-n.ensures) c.requires.room)
 
-pub label-requires-2 : goal.label-requires-2
-label-requires-2 c = places_room _ _ _ (room_as (join_whys_gap c.args.v c.args.t c.args.prev c.args.next (centres_told _ _ c.centre.ensures c.centre-2.ensures c.same.ensures c.if-same.false) c.across-n.ensures) c.requires.room)
-
-pub returns : goal.returns
-returns c = runs_as (join_whys_gap c.args.v c.args.t c.args.prev c.args.next (centres_told _ _ c.centre.ensures c.centre-2.ensures c.same.ensures c.if-same.false) c.across-n.ensures) c.label-2.ensures
+pub returns-else-eq : goal.returns-else-eq
+returns-else-eq c = runs_as (join_whys_gap c.args.v c.args.t c.args.prev c.args.next (centres_told _ _ c.centre.ensures c.centre-2.ensures (points_told _ _ c.eq.ensures) c.if-eq.false) c.across-n.ensures) c.label-else-eq.ensures

@@ -9,5 +9,5 @@ finish_whys-requires c = record { unit_long = (c.requires.unit_long.0, c.require
 pub returns-then-covered : goal.returns-then-covered
 returns-then-covered c = runs_as (leave_whys_yes c.args.v c.args.t c.args.w c.args.b c.covered.ensures c.if-covered.true) c.finish_whys.ensures
 
-pub returns : goal.returns
-returns c = runs_as (leave_whys_no c.args.v c.args.t c.args.w c.args.b c.covered.ensures c.if-covered.false) runs_none
+pub returns-else-covered : goal.returns-else-covered
+returns-else-covered c = runs_as (leave_whys_no c.args.v c.args.t c.args.w c.args.b c.covered.ensures c.if-covered.false) runs_none

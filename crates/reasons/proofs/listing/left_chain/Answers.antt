@@ -5,5 +5,5 @@ use Rattle.reasons.proofs.listing.left_chain.Goals as goal
 pub returns-then-covered : goal.returns-then-covered
 returns-then-covered c = chain_left_yes c.args.w c.args.b c.covered.ensures c.if-covered.true c.new.ensures
 
-pub returns : goal.returns
-returns c = chain_left_no c.args.w c.args.b c.covered.ensures c.if-covered.false
+pub returns-else-covered : goal.returns-else-covered
+returns-else-covered c = chain_left_no c.args.w c.args.b c.covered.ensures c.if-covered.false

@@ -13,22 +13,22 @@ use Rattle.salvaging.proofs.Given.{both_short, both_unlisted, both_given}
 use Rattle.salvaging.proofs.making.salvage_found.Goals as goal
 
 pub whole_length-needed-requires : goal.whole_length-needed-requires
-whole_length-needed-requires c = length_small (Stroke c.args.edition) _ _ (omega (arith, c.requires.n_value.0, c.requires.n_value.1.count)) (omega (arith, c.requires.m_value.0, few_edges (Stroke c.args.edition) c.args.grade (path_of c.args.path.now) c.requires.n_value.1.count))
+whole_length-needed-requires c = length_small (Stroke c.args.plan.now.edition) _ _ (omega (arith, c.args.plan.now.counted, c.args.plan.now.within.count)) (omega (arith, c.requires.edges, few_edges (Stroke c.args.plan.now.edition) c.args.plan.now.grade (path_of c.args.plan.now.path.now) c.args.plan.now.within.count))
 
 pub returns-then-out-needed : goal.returns-then-out-needed
-returns-then-out-needed c = both_short (outline_bytes (Stroke c.args.edition) c.args.grade c.args.posts.now (path_of c.args.path.now)) (notes_from 0 c.args.found.now) _ _ (needed_is (Stroke c.args.edition) c.args.grade c.args.posts.now (path_of c.args.path.now) c.requires.n_value.0 c.requires.m_value.0 c.whole_length-needed.ensures) c.if-out-needed.true
+returns-then-out-needed c = both_short (outline_bytes (Stroke c.args.plan.now.edition) c.args.plan.now.grade c.args.plan.now.posts.now (path_of c.args.plan.now.path.now)) (notes_from 0 c.args.found.now) _ _ (needed_is (Stroke c.args.plan.now.edition) c.args.plan.now.grade c.args.plan.now.posts.now (path_of c.args.plan.now.path.now) c.args.plan.now.counted c.requires.edges c.whole_length-needed.ensures) c.if-out-needed.true
 
 pub put_notes-words-requires : goal.put_notes-words-requires
-put_notes-words-requires c = c.requires.m_value.1
+put_notes-words-requires c = c.requires.few_found
 
 pub returns-then-list-words : goal.returns-then-list-words
-returns-then-list-words c = both_unlisted (outline_bytes (Stroke c.args.edition) c.args.grade c.args.posts.now (path_of c.args.path.now)) (notes_from 0 c.args.found.now) _ _ (needed_is (Stroke c.args.edition) c.args.grade c.args.posts.now (path_of c.args.path.now) c.requires.n_value.0 c.requires.m_value.0 c.whole_length-needed.ensures) c.if-out-needed.false (singles_count c.put_notes-words.ensures) c.if-list-words.true
+returns-then-list-words c = both_unlisted (outline_bytes (Stroke c.args.plan.now.edition) c.args.plan.now.grade c.args.plan.now.posts.now (path_of c.args.plan.now.path.now)) (notes_from 0 c.args.found.now) _ _ (needed_is (Stroke c.args.plan.now.edition) c.args.plan.now.grade c.args.plan.now.posts.now (path_of c.args.plan.now.path.now) c.args.plan.now.counted c.requires.edges c.whole_length-needed.ensures) c.if-out-needed.false (singles_count c.put_notes-words.ensures) c.if-list-words.true
 
 pub put_notes-requires : goal.put_notes-requires
-put_notes-requires c = c.requires.m_value.1
+put_notes-requires c = c.requires.few_found
 
 pub write-bytes-requires : goal.write-bytes-requires
-write-bytes-requires c = record { n_value = (c.requires.n_value.0, c.requires.n_value.1, numbers_any c.args.grade (omega (arith, c.requires.n_value.2))); m_value = (c.requires.m_value.0, omega (arith, c.if-out-needed.false, (needed_is (Stroke c.args.edition) c.args.grade c.args.posts.now (path_of c.args.path.now) c.requires.n_value.0 c.requires.m_value.0 c.whole_length-needed.ensures)), omega arith) }
+write-bytes-requires c = record { room = numbers_any c.args.plan.now.grade (omega (arith, c.requires.own_room)); edges = c.requires.edges; fits = (omega (arith, c.if-out-needed.false, (needed_is (Stroke c.args.plan.now.edition) c.args.plan.now.grade c.args.plan.now.posts.now (path_of c.args.plan.now.path.now) c.args.plan.now.counted c.requires.edges c.whole_length-needed.ensures)), omega arith) }
 
 pub returns : goal.returns
-returns c = both_given (outline_bytes (Stroke c.args.edition) c.args.grade c.args.posts.now (path_of c.args.path.now)) (notes_from 0 c.args.found.now) _ _ (needed_is (Stroke c.args.edition) c.args.grade c.args.posts.now (path_of c.args.path.now) c.requires.n_value.0 c.requires.m_value.0 c.whole_length-needed.ensures) c.if-out-needed.false (singles_count c.put_notes-words.ensures) c.if-list-words.false c.put_notes.ensures c.write-bytes.ensures
+returns c = both_given (outline_bytes (Stroke c.args.plan.now.edition) c.args.plan.now.grade c.args.plan.now.posts.now (path_of c.args.plan.now.path.now)) (notes_from 0 c.args.found.now) _ _ (needed_is (Stroke c.args.plan.now.edition) c.args.plan.now.grade c.args.plan.now.posts.now (path_of c.args.plan.now.path.now) c.args.plan.now.counted c.requires.edges c.whole_length-needed.ensures) c.if-out-needed.false (singles_count c.put_notes-words.ensures) c.if-list-words.false c.put_notes.ensures c.write-bytes.ensures

@@ -3,4 +3,4 @@ use Rattle.sehmelir.proofs.Told.{told_as}
 use Rattle.sehmelir.proofs.chunk_calls.sehmelir_chunk_compact.Goals as goal
 
 pub returns : goal.returns
-returns c = record { replies = told_as c.compact.ensures.reply c.done.ensures; chunk = c.compact.ensures.chunk }
+returns c = record { replies = told_as c.compact.ensures.reply c.from.ensures; chunk = c.compact.ensures.chunk }

@@ -3,4 +3,4 @@ use Rattle.sehmelir.proofs.ChunkTold.{part_as}
 use Rattle.sehmelir.proofs.chunk_calls.sehmelir_chunk_find.Goals as goal
 
 pub returns : goal.returns
-returns c = record { replies = part_as c.find.ensures.reply c.find.ensures.offset c.found.ensures }
+returns c = record { replies = part_as c.find.ensures.reply c.find.ensures.offset c.from.ensures }

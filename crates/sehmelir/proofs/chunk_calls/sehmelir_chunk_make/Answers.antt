@@ -3,4 +3,4 @@ use Rattle.sehmelir.proofs.Told.{told_as}
 use Rattle.sehmelir.proofs.chunk_calls.sehmelir_chunk_make.Goals as goal
 
 pub returns : goal.returns
-returns c = record { replies = told_as c.make.ensures.reply c.done.ensures; chunk = c.make.ensures.chunk }
+returns c = record { replies = told_as c.make.ensures.reply c.from.ensures; chunk = c.make.ensures.chunk }

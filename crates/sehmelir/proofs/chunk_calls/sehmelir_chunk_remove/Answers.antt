@@ -3,4 +3,4 @@ use Rattle.sehmelir.proofs.Told.{told_as}
 use Rattle.sehmelir.proofs.chunk_calls.sehmelir_chunk_remove.Goals as goal
 
 pub returns : goal.returns
-returns c = record { replies = told_as c.remove.ensures.reply c.done.ensures; chunk = c.remove.ensures.chunk }
+returns c = record { replies = told_as c.remove.ensures.reply c.from.ensures; chunk = c.remove.ensures.chunk }

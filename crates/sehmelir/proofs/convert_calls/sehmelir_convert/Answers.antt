@@ -3,4 +3,4 @@ use Rattle.sehmelir.proofs.Told.{told_as}
 use Rattle.sehmelir.proofs.convert_calls.sehmelir_convert.Goals as goal
 
 pub returns : goal.returns
-returns c = record { replies = told_as c.convert.ensures.reply c.converted.ensures; store = c.convert.ensures.store }
+returns c = record { replies = told_as c.convert.ensures.reply c.from.ensures; store = c.convert.ensures.store }

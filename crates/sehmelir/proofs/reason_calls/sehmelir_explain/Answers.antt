@@ -3,4 +3,4 @@ use Rattle.sehmelir.proofs.ReasonTold.{reason_as}
 use Rattle.sehmelir.proofs.reason_calls.sehmelir_explain.Goals as goal
 
 pub returns : goal.returns
-returns c = record { replies = reason_as c.explain.ensures.reply c.explain.ensures.why c.explained.ensures }
+returns c = record { replies = reason_as c.explain.ensures.reply c.explain.ensures.why c.from.ensures }

@@ -3,14 +3,14 @@ use native.Mathlib.Omega.{arith}
 use Rattle.sehmelir.proofs.RecordTold.{draw_refused, draw_passed}
 use Rattle.sehmelir.proofs.record_calls.draw_reply.Goals as goal
 
-pub numbers_of-end-requires : goal.numbers_of-end-requires
-numbers_of-end-requires c = omega (arith, c.check_count-checked.ensures.passed _ c.in-Passed.is)
+pub numbers_of-requires : goal.numbers_of-requires
+numbers_of-requires c = omega (arith, c.check_count.ensures.passed _ c.in-Ok.is)
 
 pub slice_bounds-sehmelir_draw-end : goal.slice_bounds-sehmelir_draw-end
-slice_bounds-sehmelir_draw-end c = omega (arith, c.check_count-checked.ensures.passed _ c.in-Passed.is, c.numbers_of-end.ensures, c.requires)
+slice_bounds-sehmelir_draw-end c = omega (arith, c.check_count.ensures.passed _ c.in-Ok.is, c.numbers_of.ensures, c.requires)
 
-pub returns-in-Refused : goal.returns-in-Refused
-returns-in-Refused c = draw_refused _ c.check_count-checked.ensures _ c.in-Refused.is c.refusal.ensures
+pub returns-in-Err : goal.returns-in-Err
+returns-in-Err c = draw_refused _ c.check_count.ensures _ c.in-Err.is c.from.ensures
 
-pub returns-in-Passed : goal.returns-in-Passed
-returns-in-Passed c = draw_passed _ c.check_count-checked.ensures c.in-Passed.is c.numbers_of-end.ensures c.sehmelir_draw.ensures
+pub returns-in-Ok : goal.returns-in-Ok
+returns-in-Ok c = draw_passed _ c.check_count.ensures c.in-Ok.is c.numbers_of.ensures c.sehmelir_draw.ensures

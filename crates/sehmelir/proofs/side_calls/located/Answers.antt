@@ -4,11 +4,11 @@ use native.Mathlib.Omega.{arith}
 use Rattle.sehmelir.proofs.SideTold.{body-bytes, place_body, place_refused}
 use Rattle.sehmelir.proofs.side_calls.located.Goals as goal
 
-pub overflow_mul-length : goal.overflow_mul-length
-overflow_mul-length c = omega (arith, body-bytes c.in-Body.is c.requires)
+pub overflow_mul-result : goal.overflow_mul-result
+overflow_mul-result c = omega (arith, body-bytes c.in-Ok.is c.requires)
 
-pub returns-in-Body : goal.returns-in-Body
-returns-in-Body c = place_body c.in-Body.is refl c.body_part.ensures
+pub returns-in-Ok : goal.returns-in-Ok
+returns-in-Ok c = place_body c.in-Ok.is refl (refl, refl, refl, refl, refl)
 
-pub returns-in-Refused : goal.returns-in-Refused
-returns-in-Refused c = place_refused c.in-Refused.is c.refused_part.ensures
+pub returns-in-Err : goal.returns-in-Err
+returns-in-Err c = place_refused c.in-Err.is c.from.ensures

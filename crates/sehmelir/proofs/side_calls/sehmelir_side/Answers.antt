@@ -6,4 +6,4 @@ pub located-requires : goal.located-requires
 located-requires c = length_fits c.locate.ensures c.well_formed.0.0 c.well_formed.1.0.0
 
 pub returns : goal.returns
-returns c = side_told c.sheet_of-sheet.ensures c.locate.ensures c.located.ensures
+returns c = side_told c.sheet_of.ensures c.locate.ensures c.located.ensures

@@ -5,5 +5,5 @@ use Rattle.sehmelir.proofs.side_calls.sheet_of.Goals as goal
 pub returns-then-later : goal.returns-then-later
 returns-then-later c = sheet_later c.if-later.true
 
-pub returns : goal.returns
-returns c = sheet_earlier c.if-later.false
+pub returns-else-later : goal.returns-else-later
+returns-else-later c = sheet_earlier c.if-later.false

@@ -1,6 +1,5 @@
 -- `turning::edges::store_some` meets its contract: each number is stored as it is, in its place, or is past the room. Assumes nothing.
 use native.Mathlib.Omega.{arith}
-use Rattle.plane.proofs.Products.{near_back}
 use Rattle.turning.proofs.Stored.{room_one, edge_stored}
 use Rattle.turning.proofs.edges.store_some.Goals as goal
 
@@ -12,9 +11,6 @@ overflow_add-at-2 c = omega (arith, room_one _ c.requires.room)
 
 pub overflow_add-at-3 : goal.overflow_add-at-3
 overflow_add-at-3 c = omega (arith, room_one _ c.requires.room)
-
-pub narrow-requires-4 : goal.narrow-requires-4
-narrow-requires-4 c = near_back c.requires.reach.b.y
 
 pub overflow_add-result : goal.overflow_add-result
 overflow_add-result c = omega (arith, room_one _ c.requires.room)

@@ -5,13 +5,13 @@ use Rattle.variable_stroke.proofs.ChainSteps.{finish_held, finish_none, held_aro
 use Rattle.variable_stroke.proofs.Chain.end.Goals as goal
 
 pub end_cap-requires : goal.end_cap-requires
-end_cap-requires c = record { unit_long = (c.requires.unit_long.0, held_around _ c.in-Held.is c.requires.unit_long.1.last); room = room_as (finish_held _ _ _ c.in-Held.is) c.requires.room }
+end_cap-requires c = record { unit_long = (c.requires.unit_long.0, held_around _ c.in-Some.is c.requires.unit_long.1.last); room = room_as (finish_held _ _ _ c.in-Some.is) c.requires.room }
 
 pub lone-requires : goal.lone-requires
-lone-requires c = record { unit_long = c.requires.unit_long; room = room_as (finish_none _ _ _ c.in-Nothing.is) c.requires.room }
+lone-requires c = record { unit_long = c.requires.unit_long; room = room_as (finish_none _ _ _ c.in-None.is) c.requires.room }
 
-pub returns-in-Held : goal.returns-in-Held
-returns-in-Held c = lays_as (finish_held _ _ _ c.in-Held.is) c.end_cap.ensures
+pub returns-in-Some : goal.returns-in-Some
+returns-in-Some c = lays_as (finish_held _ _ _ c.in-Some.is) c.end_cap.ensures
 
-pub returns-in-Nothing : goal.returns-in-Nothing
-returns-in-Nothing c = lays_as (finish_none _ _ _ c.in-Nothing.is) c.lone.ensures
+pub returns-in-None : goal.returns-in-None
+returns-in-None c = lays_as (finish_none _ _ _ c.in-None.is) c.lone.ensures

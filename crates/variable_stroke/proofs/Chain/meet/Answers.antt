@@ -5,13 +5,13 @@ use Rattle.variable_stroke.proofs.ChainSteps.{meet_held, meet_none, held_around}
 use Rattle.variable_stroke.proofs.Chain.meet.Goals as goal
 
 pub join-requires : goal.join-requires
-join-requires c = record { unit_long = (c.requires.unit_long.0, held_around _ c.in-Held.is c.requires.unit_long.1.last, c.requires.unit_long.2); room = room_as (meet_held _ _ _ _ c.in-Held.is) c.requires.room }
+join-requires c = record { unit_long = (c.requires.unit_long.0, held_around _ c.in-Some.is c.requires.unit_long.1.last, c.requires.unit_long.2); room = room_as (meet_held _ _ _ _ c.in-Some.is) c.requires.room }
 
 pub start_cap-requires : goal.start_cap-requires
-start_cap-requires c = record { unit_long = (c.requires.unit_long.0, c.requires.unit_long.2); room = room_as (meet_none _ _ _ _ c.in-Nothing.is) c.requires.room }
+start_cap-requires c = record { unit_long = (c.requires.unit_long.0, c.requires.unit_long.2); room = room_as (meet_none _ _ _ _ c.in-None.is) c.requires.room }
 
-pub returns-in-Held : goal.returns-in-Held
-returns-in-Held c = lays_as (meet_held _ _ _ _ c.in-Held.is) c.join.ensures
+pub returns-in-Some : goal.returns-in-Some
+returns-in-Some c = lays_as (meet_held _ _ _ _ c.in-Some.is) c.join.ensures
 
-pub returns-in-Nothing : goal.returns-in-Nothing
-returns-in-Nothing c = lays_as (meet_none _ _ _ _ c.in-Nothing.is) c.start_cap.ensures
+pub returns-in-None : goal.returns-in-None
+returns-in-None c = lays_as (meet_none _ _ _ _ c.in-None.is) c.start_cap.ensures

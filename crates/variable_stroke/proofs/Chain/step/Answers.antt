@@ -3,4 +3,4 @@ use Rattle.variable_stroke.proofs.ChainSteps.{marked_is}
 use Rattle.variable_stroke.proofs.Chain.step.Goals as goal
 
 pub returns : goal.returns
-returns c = record { chain = marked_is _ _; made = c.drawn-n.ensures }
+returns c = record { chain = marked_is _ _; made = c.drawn-at.ensures }

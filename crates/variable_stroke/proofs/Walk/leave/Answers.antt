@@ -9,5 +9,5 @@ finish-ended-requires c = record { unit_long = (c.requires.unit_long.0, c.requir
 pub returns-then-covered : goal.returns-then-covered
 returns-then-covered c = leave_yes _ _ _ c.covered.ensures c.if-covered.true c.finish-ended.ensures c.start-begun.ensures
 
-pub returns : goal.returns
-returns c = leave_no _ _ _ c.covered.ensures c.if-covered.false
+pub returns-else-covered : goal.returns-else-covered
+returns-else-covered c = leave_no _ _ _ c.covered.ensures c.if-covered.false

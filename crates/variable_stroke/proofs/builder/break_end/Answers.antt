@@ -6,5 +6,5 @@ use Rattle.variable_stroke.proofs.builder.break_end.Goals as goal
 pub returns-then-b-a : goal.returns-then-b-a
 returns-then-b-a c = end_smaller _ _ (search rules) (search rules) c.if-b-a.true
 
-pub returns : goal.returns
-returns c = end_larger _ _ (search rules) (search rules) c.if-b-a.false
+pub returns-else-b-a : goal.returns-else-b-a
+returns-else-b-a c = end_larger _ _ (search rules) (search rules) c.if-b-a.false

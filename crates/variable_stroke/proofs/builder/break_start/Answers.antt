@@ -6,5 +6,5 @@ use Rattle.variable_stroke.proofs.builder.break_start.Goals as goal
 pub returns-then-b-a : goal.returns-then-b-a
 returns-then-b-a c = start_smaller _ _ (search rules) (search rules) c.if-b-a.true
 
-pub returns : goal.returns
-returns c = start_larger _ _ (search rules) (search rules) c.if-b-a.false
+pub returns-else-b-a : goal.returns-else-b-a
+returns-else-b-a c = start_larger _ _ (search rules) (search rules) c.if-b-a.false

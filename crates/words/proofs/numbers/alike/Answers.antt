@@ -1,48 +1,14 @@
--- `words::numbers::alike` meets its contract: a word that is due and stands there agrees. Assumes nothing.
-use borrow.Author.Rules.{rules}
-use native.Mathlib.Nat.{add-zero}
+-- `words::numbers::alike` meets its contract: all before j agree, so whoever compares the rest has compared them all. Assumes nothing.
+use mathlib.Core.Path.{◌≡◌, refl}
+use Prim.Native.Nat.{◌+◌, ◌*◌}
 use native.Mathlib.Omega.{arith}
-use Rattle.runs.proofs.Onward.{onward_start, onward_as}
+use Rattle.std.proofs.Common.{rules}
 use Rattle.words.proofs.OneWord.{word_same}
-use Rattle.words.proofs.NumberRuns.{first_step, onward_word}
+use Rattle.words.proofs.NumberRuns.{onward_number}
 use Rattle.words.proofs.numbers.alike.Goals as goal
 
-pub loop-same-init : goal.loop-same-init
-loop-same-init c = (omega arith, rw (add-zero c.args.at) onward_start)
-
-pub offset_bounds-from-same : goal.offset_bounds-from-same
-offset_bounds-from-same c = omega arith
-
-pub bounds-from-same : goal.bounds-from-same
-bounds-from-same c = omega arith
-
-pub overflow_mul-same : goal.overflow_mul-same
-overflow_mul-same c = omega arith
-
-pub overflow_add-at : goal.overflow_add-at
-overflow_add-at c = omega arith
-
-pub word_from-requires : goal.word_from-requires
-word_from-requires c = omega (arith, c.loop-same-test.true, c.requires.n_in_bounds_2)
-
-pub bits-requires : goal.bits-requires
-bits-requires c = tt
-
-pub returns-then-word_from-bits : goal.returns-then-word_from-bits
-returns-then-word_from-bits c = record { most = c.loop-same.invariant.0; rest = c.loop-same.invariant.1.on }
-
-pub overflow_add-same : goal.overflow_add-same
-overflow_add-same c = omega arith
-
-pub loop-same-smaller : goal.loop-same-smaller
-loop-same-smaller c = omega arith
-
-pub loop-same-preserved : goal.loop-same-preserved
-loop-same-preserved c = (
-  omega arith,
-  onward_word _ _ _ (onward_as (first_step c.args.from.now c.args.n c.loop-same.same c.loop-same-test.true c.requires.n_in_bounds (record { sfits = search rules }) c.bits.ensures) c.loop-same.invariant.1)
-      (word_same c.args.s.now (omega arith) (omega (arith, c.loop-same-test.true, c.requires.n_in_bounds_2)) c.shared_slice_known-1.given (omega (arith, c.word_from.ensures, c.if-word_from-bits.false))),
-)
-
-pub returns : goal.returns
-returns c = record { most = c.loop-same.invariant.0; rest = c.loop-same.invariant.1.on }
+pub loop-j-preserved : goal.loop-j-preserved
+loop-j-preserved c =
+    let e : c.args.at + 4 * (c.loop-j.j + 1) ≡ c.args.at + 4 * c.loop-j.j + 4 = omega arith in
+    rw e (onward_number _ _ c.loop-j.invariant c.loop-j-test.true (record { sfits = search rules }) c.bits.ensures
+    (word_same c.args.s.now refl (omega arith) c.type_inv.s (omega arith)))

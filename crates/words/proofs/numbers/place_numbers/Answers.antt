@@ -1,45 +1,12 @@
--- `words::numbers::place_numbers` meets its contract: what is left of the numbers is placed on, word by word. Assumes nothing.
-use borrow.Author.Rules.{rules}
-use native.Mathlib.Nat.{add-zero}
+-- `words::numbers::place_numbers` meets its contract: whoever puts the rest from j on has put them all. Assumes nothing.
 use native.Mathlib.Omega.{arith}
-use Rattle.runs.proofs.Laws.{runs_none, runs_to}
-use Rattle.runs.proofs.Onward.{onward_start, onward_step, onward_as, onward_done}
-use Rattle.runs.proofs.Written.{onward_length}
-use Rattle.words.proofs.NumberRuns.{first_step, first_end}
+use Rattle.std.proofs.Common.{rules}
+use Rattle.runs.proofs.Laws.{runs_to}
+use Rattle.words.proofs.NumberRuns.{onward_number, onward_end}
 use Rattle.words.proofs.numbers.place_numbers.Goals as goal
 
-pub loop-j-init : goal.loop-j-init
-loop-j-init c = (omega arith, rw (add-zero c.args.at) onward_start)
-
-pub offset_bounds-from-j : goal.offset_bounds-from-j
-offset_bounds-from-j c = omega arith
-
-pub bounds-from-j : goal.bounds-from-j
-bounds-from-j c = omega arith
-
-pub overflow_mul-j : goal.overflow_mul-j
-overflow_mul-j c = omega arith
-
-pub overflow_add-at : goal.overflow_add-at
-overflow_add-at c = omega arith
-
-pub bits-requires : goal.bits-requires
-bits-requires c = tt
-
-pub place_word-requires : goal.place_word-requires
-place_word-requires c = omega (arith, onward_length c.loop-j.invariant.1, c.loop-j-test.true, c.requires.n_in_bounds_2)
-
-pub overflow_add-j : goal.overflow_add-j
-overflow_add-j c = omega arith
-
-pub loop-j-smaller : goal.loop-j-smaller
-loop-j-smaller c = omega arith
-
 pub loop-j-preserved : goal.loop-j-preserved
-loop-j-preserved c = (omega arith, onward_step (onward_as (first_step c.args.from.now c.args.n c.loop-j.j c.loop-j-test.true c.requires.n_in_bounds (record { sfits = search rules }) c.bits.ensures) c.loop-j.invariant.1) (runs_to (omega arith) c.place_word.ensures))
-
-pub shape_of-s : goal.shape_of-s
-shape_of-s c = onward_length c.loop-j.invariant.1
+loop-j-preserved c = onward_number _ _ c.loop-j.invariant c.loop-j-test.true (record { sfits = search rules }) c.bits.ensures (runs_to (omega arith) c.place_word.ensures)
 
 pub returns : goal.returns
-returns c = onward_done (onward_as (first_end c.args.from.now c.args.n c.loop-j.j c.loop-j-test.false) c.loop-j.invariant.1) (runs_to (omega arith) runs_none)
+returns c = runs_to (omega arith) (onward_end _ _ c.loop-j.invariant c.loop-j-test.false)

@@ -1,2 +1,0 @@
--- The crate's own laws.
-pub mod Wide

@@ -1,6 +1,0 @@
--- `cases::checksum::of_bytes` is safe: each sum is a rest, and has 32 bits.
-use Rattle.std.proofs.Common.{◌^◌, ◌<◌}
-use Rattle.cases.proofs.checksum.of_bytes.Given as goal
-
-abbrev pub invariant-loop-entry : goal.invariant-loop-entry
-invariant-loop-entry l = l.sum < 2 ^ 32

@@ -1,0 +1,9 @@
+-- `drawing::Subject::draw_sized` meets its contract: whatever own numbers are picked, the edges are the path's. Assumes nothing.
+use Rattle.plane.proofs.Directions.{step_unit}
+use Rattle.replies.proofs.PathChecks.{walk_room}
+use Rattle.drawing.proofs.Subject.+draw_sized.Goals as goal
+
+pub begin-begun-requires : goal.begin-begun-requires
+begin-begun-requires t c =
+    let f = c.args.self.now.fits in
+    record { n_value = (f.count, f.within.inside, step_unit _ c.args.self.now.stepped, c.args.self.now.some); room = walk_room _ f.within c.args.self.now.stepped }
