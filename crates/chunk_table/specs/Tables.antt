@@ -27,6 +27,10 @@ offset_place i = 8 + 12 * i
 abbrev pub size_place : ℕ → ℕ
 size_place i = 12 + 12 * i
 
+-- a word of entry i, by its place in the first
+abbrev pub entry_word : List ℕ → ℕ → ℕ → ℕ
+entry_word c place i = word_from c (place + 12 * i)
+
 -- where a word of the first entry stands
 abbrev pub field_place : Field → ℕ
 field_place field.Key = 4
@@ -35,7 +39,7 @@ field_place field.Size = 12
 
 -- a word of entry i
 abbrev pub field_in : List ℕ → Field → ℕ → ℕ
-field_in c f i = word_from c (field_place f + 12 * i)
+field_in c f i = entry_word c (field_place f) i
 
 abbrev pub entry_count : List ℕ → ℕ
 entry_count c = word_from c 0

@@ -49,10 +49,10 @@ pub fn damaged(c: &[u8]) -> bool
         return true;
     };
     let mut order = [0; MOST_ENTRIES];
-    let used = sort_on(&table, Field::Offset, &mut order);
+    let used = sort_on(&table.column(Field::Offset), &mut order);
     if !strung(&table, &order[..used]) {
         return true;
     }
-    let used = sort_on(&table, Field::Key, &mut order);
+    let used = sort_on(&table.column(Field::Key), &mut order);
     twice(&table, &order[..used])
 }

@@ -1,6 +1,6 @@
 // The table of contents: its words, the entry of a key, and the first empty one.
 ghost use Rattle.std.specs.Prelude.{◌≡◌, true, false, ◌+◌, ◌≤◌, ◌<◌, length, get_or, ℕ, MatchOption};
-ghost use Rattle.chunk_table.specs.Tables.{table_bytes, front_in, entry_count, field_place, field_in, used_at, damaged_in, holds_key, key_entry, empty_entry};
+ghost use Rattle.chunk_table.specs.Tables.{table_bytes, front_in, entry_count, entry_word, field_place, field_in, used_at, damaged_in, holds_key, key_entry, empty_entry};
 
 use words::word_from;
 
@@ -33,12 +33,12 @@ impl Field {
     }
 }
 
-// A word of entry i.
-pub fn word_of(c: &[u8], i: usize, field: Field) -> usize
-    requires { table_bytes (i + 1) ≤ length c.now }
-    ensures { (result ≡ field_in c.now field i) × (result < 4294967296) }
+// A word of entry i: 4 its key, 8 its offset, 12 its length.
+pub fn word_of(c: &[u8], i: usize, field: usize) -> usize
+    requires { (table_bytes (i + 1) ≤ length c.now) × (field ≤ 12) }
+    ensures { (result ≡ entry_word c.now field i) × (result < 4294967296) }
 {
-    word_from(c, field.place() + TABLE_ENTRY * i) as usize
+    word_from(c, field + TABLE_ENTRY * i) as usize
 }
 
 // The number of entries.
@@ -47,6 +47,36 @@ pub fn entry_count(c: &[u8]) -> usize
     ensures { result ≡ entry_count c.now }
 {
     word_from(c, 0) as usize
+}
+
+// One word of each entry, by its place in the first: what a table is sorted on.
+#[derive(Clone, Copy)]
+pub struct Column<'a> {
+    pub bytes: &'a [u8],
+    pub entries: usize,
+    pub place: usize,
+    pub ghost each: { (k : ℕ) → get_or bytes.now k 0 < 256 },
+    pub ghost few: { entries ≤ 1024 },
+    pub ghost inside: { table_bytes entries ≤ length bytes.now },
+    pub ghost within: { place ≤ 12 },
+}
+
+impl<'a> Column<'a> {
+    // The word of entry i.
+    pub fn word(&self, i: usize) -> usize
+        requires { i < self.now.entries }
+        ensures { (result ≡ entry_word self.now.bytes.now self.now.place i) × (result < 4294967296) }
+    {
+        word_of(self.bytes, i, self.place)
+    }
+
+    // Whether entry i is in use.
+    pub fn is_used(&self, i: usize) -> bool
+        requires { i < self.now.entries }
+        ensures { result ≡ used_at self.now.bytes.now i }
+    {
+        word_of(self.bytes, i, Field::Size.place()) != 0
+    }
 }
 
 // The table that a chunk begins with, all of which lies inside the chunk.
@@ -105,7 +135,18 @@ impl<'a> Table<'a> {
         requires { i < self.now.entries }
         ensures { (result ≡ field_in self.now.bytes.now field i) × (result < 4294967296) }
     {
-        word_of(self.bytes, i, field)
+        word_of(self.bytes, i, field.place())
+    }
+
+    // One word of each entry.
+    pub fn column(&self, field: Field) -> Column<'a>
+        ensures { (result.bytes.now ≡ self.now.bytes.now) × (result.entries ≡ self.now.entries) × (result.place ≡ field_place field) }
+    {
+        Column {
+            bytes: self.bytes,
+            entries: self.entries,
+            place: field.place(),
+        }
     }
 
     // Whether entry i is in use.

@@ -21,8 +21,8 @@ fn pack(c: &mut [u8], order: &[usize], front: usize) -> usize
 {
     let mut at = front;
     for &i in order {
-        let offset = word_of(c, i, Field::Offset);
-        let size = word_of(c, i, Field::Size);
+        let offset = word_of(c, i, Field::Offset.place());
+        let size = word_of(c, i, Field::Size.place());
         slide_bytes(c, offset, at, size);
         at += size;
     }
@@ -38,7 +38,7 @@ fn renumber(c: &mut [u8], order: &[usize], front: usize)
     let mut at = front;
     for &i in order {
         place_word(c, Field::Offset.place() + 12 * i, at as u32);
-        at += word_of(c, i, Field::Size);
+        at += word_of(c, i, Field::Size.place());
     }
 }
 
@@ -62,6 +62,7 @@ pub fn compact(c: &mut [u8]) -> Result<usize, Refusal>
         return Err(Refusal::Damaged);
     }
     let mut order = [0; MOST_ENTRIES];
-    let used = sort(&Table::of(c), &mut order);
+    let entries = Table::of(c).entries;
+    let used = sort(c, entries, &mut order);
     Ok(squeeze(c, &order[..used]))
 }

@@ -88,7 +88,7 @@ pub fn put_outline(c: &mut [u8], key: u32, made: &[u8]) -> Result<usize, Refusal
         return Err(Refusal::TableFull(table.entries));
     };
     let mut order = [0; MOST_ENTRIES];
-    let used = sort(&table, &mut order);
+    let used = sort(table.bytes, table.entries, &mut order);
     let end = packed_end(&table, &order[..used]);
     if c.len() - end < made.len() {
         return Err(Refusal::NoRoom(made.len()));

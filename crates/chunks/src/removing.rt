@@ -15,8 +15,8 @@ fn wipe(c: &mut [u8], i: usize) -> usize
     requires used { (i < entry_count c.old) × (used_at c.old i ≡ true) }
     ensures { (result ≡ size_in c.old i) × (c.new ≡ without c.old i) }
 {
-    let offset = word_of(c, i, Field::Offset);
-    let size = word_of(c, i, Field::Size);
+    let offset = word_of(c, i, Field::Offset.place());
+    let size = word_of(c, i, Field::Size.place());
     clear_bytes(c, offset, size);
     clear_bytes(c, TABLE_HEAD + TABLE_ENTRY * i, TABLE_ENTRY);
     size

@@ -12,7 +12,7 @@ pub overflow_add-at : goal.overflow_add-at
 overflow_add-at c = omega (arith, renumbering_at c.loop-i.invariant c.requires.end, c.word_of-at.ensures.1)
 
 pub loop-i-preserved : goal.loop-i-preserved
-loop-i-preserved c = renumbering_step c.loop-i.invariant (rest_next _ _ c.loop-i-test.true) (rw c.place.ensures.0 at (word_put _ c.place_word.ensures)) c.word_of-at.ensures.0
+loop-i-preserved c = renumbering_step c.loop-i.invariant (rest_next _ _ c.loop-i-test.true) (rw c.place.ensures.0 at (word_put _ c.place_word.ensures)) (rw c.place-in-loop-i.ensures.0 at c.word_of-at.ensures.0)
 
 pub returns : goal.returns
 returns c = renumbering_done c.loop-i.invariant (rest_none _ _ c.loop-i-test.false)
