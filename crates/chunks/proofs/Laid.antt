@@ -4,11 +4,13 @@ use mathlib.Core.Logic.{◌⊎◌, inl, inr, ⊎_elim}
 use mathlib.Core.List.{List, [], ◌∷◌, ◌++◌, append_assoc}
 use Prim.Native.Nat.{ℕ, zero, suc, ◌+◌, ◌-◌, ◌%◌, ◌^◌, ◌≤◌, ◌<◌}
 use native.Mathlib.Nat.{add-zero}
+use native.Mathlib.Numerals.{add-one}
 use native.Mathlib.Omega.{arith}
 use lib.ListN.{length, get_or, take, drop, set, length-set, length-drop}
-use lib.Seq.{length-sets, sets-eq, drop-drop, get_or-set_same, get_or-set_other, get_or-drop, length-take-le, ext_get_or}
+use lib.Seq.{length-sets, sets-eq, drop-drop, get_or-set_same, get_or-set_other, get_or-drop, take-suc, take_all, length-take-le, ext_get_or}
 use Rattle.runs.specs.Runs.{spread, over, Runs, put}
 use Rattle.words.specs.Words.{four_bytes, word_from}
+use Rattle.runs.proofs.Laws.{over-append}
 use Rattle.runs.proofs.Written.{over_sets}
 use Rattle.words.proofs.Bytes.{four_back}
 
@@ -35,6 +37,28 @@ over_in l a (v ∷ vs) (suc k) h m =
 -- the same, at a place given by itself
 pub over_in_at : (l : List ℕ) (a : ℕ) (vs : List ℕ) (j k : ℕ) → j ≡ a + k → a + length vs ≤ length l → k < length vs → get_or (over put l a vs) j 0 ≡ get_or vs k 0
 over_in_at l a vs j k e h m = ap (λ i. get_or (over put l a vs) i 0) e ∙ over_in l a vs k h m
+
+-- ---- a loop that lays one byte a turn
+
+pub record Laying (l : List ℕ) (a : ℕ) (vs : List ℕ) (j : ℕ) (s : List ℕ) : Type 0 where
+  pub out : s ≡ over put l a (take j vs)
+
+pub laying_start : (l : List ℕ) (a : ℕ) (vs : List ℕ) → Laying l a vs 0 l
+unfolding over
+laying_start l a vs = record { out = refl }
+
+module _ {l : List ℕ} {a : ℕ} {vs : List ℕ} {j : ℕ} {s : List ℕ} (h : Laying l a vs j s) where
+  pub laying_more : j < length vs → Laying l a vs (j + 1) (set s (a + j) (get_or vs j 0))
+  unfolding over
+  laying_more m = record {
+    out = rw (h.out, add-one j)
+        (ap (λ k. set (over put l a (take j vs)) (a + k) (get_or vs j 0)) (sym (length-take-le j vs (omega arith)))
+        ∙ over-append put l a (take j vs) (get_or vs j 0 ∷ [])
+        ∙ ap (over put l a) (sym (take-suc vs j 0 m)));
+  }
+
+  pub laying_all : length vs ≤ j → s ≡ over put l a vs
+  laying_all m = h.out ∙ ap (over put l a) (take_all j vs m)
 
 -- as the part of a list that a slice is, and as a paste
 pub laid_part : (l : List ℕ) (a k : ℕ) {vs ws : List ℕ} → vs ≡ ws → k ≡ length ws → a + k ≤ length l → take a l ++ (vs ++ drop k (drop a l)) ≡ over put l a ws

@@ -18,10 +18,12 @@ pub fn slide_bytes(s: &mut [u8], from: usize, at: usize, n: usize)
     s.copy_within(from..from + n, at);
 }
 
-// All of the lent bytes.
+// All of the lent bytes, one by one: of `copy_from_slice` the compiler makes memmove.
 pub fn copy_bytes(s: &mut [u8], at: usize, made: &[u8])
     requires { at + length made.now ≤ length s.old }
     ensures { s.new ≡ over put s.old at made.now }
 {
-    s[at..at + made.len()].copy_from_slice(made);
+    for (j, &byte) in made.iter().enumerate() {
+        s[at + j] = byte;
+    }
 }

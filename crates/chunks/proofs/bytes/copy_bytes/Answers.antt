@@ -1,9 +1,12 @@
--- `chunks::bytes::copy_bytes` meets its contract: the part becomes the lent bytes. Assumes nothing.
-use Prim.Native.Nat.{◌+◌, ◌-◌}
-use native.Mathlib.Omega.{arith}
-use lib.ListN.{length}
-use Rattle.chunks.proofs.Laid.{laid_part}
+-- `chunks::bytes::copy_bytes` meets its contract: after j turns j bytes are laid. Assumes nothing.
+use Rattle.chunks.proofs.Laid.{laying_start, laying_more, laying_all}
 use Rattle.chunks.proofs.bytes.copy_bytes.Goals as goal
 
+pub loop-j-init : goal.loop-j-init
+loop-j-init c = laying_start _ _ _
+
+pub loop-j-preserved : goal.loop-j-preserved
+loop-j-preserved c = laying_more c.loop-j.invariant c.loop-j-test.true
+
 pub returns : goal.returns
-returns c = laid_part c.args.s.now c.args.at (c.args.at + length c.args.made.now - c.args.at) c.copy_from_slice.ensures.after (omega arith) (omega arith)
+returns c = laying_all c.loop-j.invariant c.loop-j-test.false
