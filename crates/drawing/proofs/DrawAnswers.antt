@@ -25,10 +25,6 @@ use Rattle.replies.specs.declared.Refusal.{Refusal}
 use Rattle.replies.specs.declared.Refusal.TheVariants.{NoRoom, WithoutEdges}
 use Rattle.replies.proofs.PathChecks.{walk_edges, numbers_walked, count_of, path_refuses}
 
--- the first m numbers of one row copied to the front of another
-pub copied : (l out : List ℤ) {m : ℕ} → m ≤ length out → m ≤ length l → take m l ++ drop m out ≡ over put out 0 (take m l)
-copied l out {m} h k = let e : length (take m l) ≡ m = length-take-le m l k in rw (over_whole out (take m l) (omega arith), e)
-
 -- w is the position that the walk came to
 module _ (path : List ℤ) {g n w : ℕ} {t : Vector} {l l₁ : List ℤ} (h : Fits path g n) (e : t ≡ step_of g)
     (p : Runs put edge_numbers l 0 (joined (bodies_at t (path_of path))) l₁ w) where

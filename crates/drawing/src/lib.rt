@@ -1,7 +1,8 @@
 // draw: a path's edges into lent numbers.
 #![tactic(auto)]
 
-ghost use Rattle.std.specs.Prelude.{◌≡◌, ◌^◌, ◌≤◌, ◌<◌, length};
+ghost use Rattle.std.specs.Prelude.{◌≡◌, ◌^◌, ◌≤◌, ◌<◌, length, take};
+ghost use Rattle.runs.specs.Runs.{over, put};
 ghost use Rattle.plane.specs.Directions.{UnitLong, step_of};
 ghost use Rattle.folds.specs.Folds.{Holds, Edgewise, RoomFor, Sizes, Unfolds};
 ghost use Rattle.paths.specs.Paths.{path_of};
@@ -24,6 +25,16 @@ fn held_size(own: &[i32], m: usize, pen: Pen) -> usize
     if pen.folds { unfolded(own, m) } else { m }
 }
 
+// The first m numbers of one row into another that has room for them, one by one: of `copy_from_slice` the compiler makes memmove.
+pub fn copy(from: &[i32], m: usize, out: &mut [i32])
+    requires { (m ≤ length from.now) × (m ≤ length out.old) }
+    ensures { out.new ≡ over put out.old 0 (take m from.now) }
+{
+    for j in 0..m {
+        out[j] = from[j];
+    }
+}
+
 // Those edges, into room that is long enough.
 fn put_held(own: &[i32], m: usize, pen: Pen, out: &mut [i32]) -> usize
     requires { UnitLong pen.step × Holds own.now m × Edgewise pen own.now m × RoomFor pen.step own.now m (length out.old) }
@@ -32,7 +43,7 @@ fn put_held(own: &[i32], m: usize, pen: Pen, out: &mut [i32]) -> usize
     if pen.folds {
         return unfold(own, m, pen.step, out);
     }
-    out[..m].copy_from_slice(&own[..m]);
+    copy(own, m, out);
     m
 }
 

@@ -12,6 +12,7 @@ ghost use Rattle.kerb_rows.specs.KerbRows.{KerbFits};
 ghost use Rattle.kerb_drawing.specs.KerbDrawing.{DrawsKerb};
 ghost use Rattle.kerb_drawing.specs.Counted.{Counted};
 
+use drawing::copy;
 use kerb::Style;
 use kerb_paths::pieces::kerb_edges;
 use kerb_rows::LentKerb;
@@ -32,7 +33,7 @@ fn put_edges(
     ensures { Runs put edge_numbers out.old 0 (kerb_edges grade y (kerb_path y.radius points.now)) out.new result }
 {
     if m <= own.len() {
-        out[..m].copy_from_slice(&own[..m]);
+        copy(own, m, out);
         return m;
     }
     kerb_edges(points, n, grade, y, out)
