@@ -1,9 +1,10 @@
 // The numbers of a case as points, vertices, sections, steps and choices, if they are what the functions ask for.
-ghost use Rattle.std.specs.Prelude.{◌≡◌, true, IfSome};
+ghost use Rattle.std.specs.Prelude.{◌≡◌, true, false, IfSome};
 ghost use Rattle.plane.specs.Vectors.{Near};
 ghost use Rattle.plane.specs.Directions.{UnitLong};
 ghost use Rattle.turning.specs.Bounds.{About};
 ghost use Rattle.contacts.specs.Bounds.{Inside, Around};
+ghost use Rattle.contacts.specs.Contacts.{broken_of};
 
 use contacts::limits::allowed;
 use contacts::math::kind;
@@ -43,11 +44,17 @@ pub fn vertex(numbers: &[Number]) -> Option<Vertex>
     if allowed(v) { Some(v) } else { None }
 }
 
-// The section from one vertex to another, unless the step is broken.
+// The section from one vertex to another, if both are within the limits and the step is not broken.
 pub fn whole(a: Vertex, b: Vertex) -> Option<Section>
-    requires { Inside a × Inside b }
-    ensures { IfSome result Around }
+    ensures whole { IfSome result (λ s. Inside a × Inside b × (broken_of a b ≡ false)) }
+    ensures around { IfSome result Around }
 {
+    if !allowed(a) {
+        return None;
+    }
+    if !allowed(b) {
+        return None;
+    }
     match kind(a, b) {
         Kind::Broken => None,
         Kind::Drawn => Some(section(a, b)),
@@ -63,7 +70,7 @@ fn near(p: Point) -> bool
 }
 
 // Whether a point is no farther from a centre than a radius within the limits, rounded.
-fn about(c: Point, p: Point) -> bool
+pub fn about(c: Point, p: Point) -> bool
     requires { Near c }
     ensures { result ≡ true → About c p }
 {
