@@ -1,5 +1,6 @@
 // A case without its entries: its code and the numbers before them.
 ghost use Rattle.std.specs.Prelude.{◌≤◌};
+ghost use Rattle.lines.specs.Rests.{LeftOf};
 
 use lines::token::{Number, Numbers};
 
@@ -48,27 +49,37 @@ fn capped(number: Number, most: u64) -> u64
 }
 
 // A grade. One that no u32 holds counts as the largest.
-fn read_grade(numbers: &mut Numbers<'_>) -> Option<u32> {
+fn read_grade(numbers: &mut Numbers<'_>) -> Option<u32>
+    ensures { LeftOf numbers.old.rest.now numbers.new.rest.now }
+{
     Some(capped(numbers.next()?, 0xFFFF_FFFF) as u32)
 }
 
 // A place in lent memory. One that no memory has counts as `PAST`.
-fn read_index(numbers: &mut Numbers<'_>) -> Option<usize> {
+fn read_index(numbers: &mut Numbers<'_>) -> Option<usize>
+    ensures { LeftOf numbers.old.rest.now numbers.new.rest.now }
+{
     Some(capped(numbers.next()?, PAST) as usize)
 }
 
 // How many entries are lent or follow.
-fn read_count(numbers: &mut Numbers<'_>) -> Option<usize> {
+fn read_count(numbers: &mut Numbers<'_>) -> Option<usize>
+    ensures { LeftOf numbers.old.rest.now numbers.new.rest.now }
+{
     Some(numbers.next()?.natural()? as usize)
 }
 
 // A number of 32 bits.
-fn read_entry(numbers: &mut Numbers<'_>) -> Option<i32> {
+fn read_entry(numbers: &mut Numbers<'_>) -> Option<i32>
+    ensures { LeftOf numbers.old.rest.now numbers.new.rest.now }
+{
     i32::try_from(numbers.next()?).ok()
 }
 
 // `grade room n`.
-fn read_lent(numbers: &mut Numbers<'_>) -> Option<Lent> {
+fn read_lent(numbers: &mut Numbers<'_>) -> Option<Lent>
+    ensures { LeftOf numbers.old.rest.now numbers.new.rest.now }
+{
     Some(Lent {
         grade: read_grade(numbers)?,
         room: read_count(numbers)?,
@@ -77,7 +88,9 @@ fn read_lent(numbers: &mut Numbers<'_>) -> Option<Lent> {
 }
 
 // `index x y radius`.
-fn read_place(numbers: &mut Numbers<'_>) -> Option<Place> {
+fn read_place(numbers: &mut Numbers<'_>) -> Option<Place>
+    ensures { LeftOf numbers.old.rest.now numbers.new.rest.now }
+{
     Some(Place {
         index: read_index(numbers)?,
         x: read_entry(numbers)?,
@@ -87,7 +100,9 @@ fn read_place(numbers: &mut Numbers<'_>) -> Option<Place> {
 }
 
 // `at value`.
-fn read_damage(numbers: &mut Numbers<'_>) -> Option<Damage> {
+fn read_damage(numbers: &mut Numbers<'_>) -> Option<Damage>
+    ensures { LeftOf numbers.old.rest.now numbers.new.rest.now }
+{
     Some(Damage {
         at: read_index(numbers)?,
         value: (numbers.next()?.size % 256) as u8,
@@ -95,7 +110,9 @@ fn read_damage(numbers: &mut Numbers<'_>) -> Option<Damage> {
 }
 
 // `grade extra at value index x y radius n`.
-fn read_edit(numbers: &mut Numbers<'_>) -> Option<Case> {
+fn read_edit(numbers: &mut Numbers<'_>) -> Option<Case>
+    ensures { LeftOf numbers.old.rest.now numbers.new.rest.now }
+{
     let grade = read_grade(numbers)?;
     let room = read_count(numbers)?;
     let damage = read_damage(numbers)?;
@@ -105,7 +122,9 @@ fn read_edit(numbers: &mut Numbers<'_>) -> Option<Case> {
 }
 
 // The case that a line begins with, by the text's own codes; its entries are the numbers that are left.
-pub fn read_head(numbers: &mut Numbers<'_>) -> Option<Case> {
+pub fn read_head(numbers: &mut Numbers<'_>) -> Option<Case>
+    ensures { LeftOf numbers.old.rest.now numbers.new.rest.now }
+{
     match numbers.next()?.natural()? {
         1 => Some(Case::Draw(read_lent(numbers)?)),
         2 => Some(Case::Keep(read_lent(numbers)?)),

@@ -5,26 +5,16 @@ ghost use Rattle.std.specs.Io.KnownBytes.{Consumes, Keeps, IsAtEnd};
 ghost use Rattle.cases.specs.Streams.{TakesSome};
 
 use std::io;
-use std::io::{ErrorKind, Read};
+use std::io::Read;
 
-// One read, tried again where it is interrupted.
+// One read: what it takes and what an error leaves.
 fn read_some<R: Read>(input: &mut R, buffer: &mut [u8]) -> io::Result<usize>
     ensures bound { ReadsAtMost result buffer.new }
     ensures read { IfOk result (λ count. Consumes (R.remaining input.old) (R.remaining input.new) (take count buffer.new)) }
     ensures end { IfOk result (λ count. count ≡ 0 → 0 < length buffer.old → IsAtEnd (R.remaining input.new)) }
     ensures err { OnErr result (Keeps (R.remaining input.old) (R.remaining input.new)) }
 {
-    for _ in 0..u64::MAX {
-        match input.read(buffer) {
-            Ok(more) => return Ok(more),
-            Err(e) => {
-                if e.kind() != ErrorKind::Interrupted {
-                    return Err(e);
-                }
-            }
-        }
-    }
-    Err(io::Error::from(ErrorKind::Interrupted))
+    input.read(buffer)
 }
 
 // Reads on behind the first `filled` bytes, until the buffer is full or the input ends; how many are filled then.

@@ -17,25 +17,18 @@ pub fn byte<W: Write>(page: &mut W, value: u8) -> io::Result<()>
     text(page, &[value])
 }
 
-// One write, tried again where it is interrupted; how many bytes were taken, at least one of some.
+// One write; how many bytes were taken, at least one of some.
 fn write_some<W: Write>(page: &mut W, bytes: &[u8]) -> io::Result<usize>
     requires { 0 < length bytes.now }
     ensures some { IfOk result (λ count. (0 < count) × (count ≤ length bytes.now)) }
     ensures ok { IfOk result (λ count. Appends (W.contents page.old) (W.contents page.new) (take count bytes.now)) }
     ensures grows { Grows (W.contents page.old) (W.contents page.new) }
 {
-    for _ in 0..u64::MAX {
-        match page.write(bytes) {
-            Ok(0) => return Err(io::Error::from(ErrorKind::WriteZero)),
-            Ok(count) => return Ok(count),
-            Err(e) => {
-                if e.kind() != ErrorKind::Interrupted {
-                    return Err(e);
-                }
-            }
-        }
+    let count = page.write(bytes)?;
+    if count == 0 {
+        return Err(io::Error::from(ErrorKind::WriteZero));
     }
-    Err(io::Error::from(ErrorKind::Interrupted))
+    Ok(count)
 }
 
 // Each byte of a text. `write_all` does the same, but promises nothing of what an error leaves.

@@ -1,6 +1,7 @@
 // The numbers of a line: decimal numbers with spaces between them.
-ghost use Rattle.std.specs.Prelude.{length};
+ghost use Rattle.std.specs.Prelude.{◌≡◌, [], length};
 ghost use Rattle.std.specs.Iterator.{at_most};
+ghost use Rattle.lines.specs.Rests.{LeftOf};
 
 // A whole number, its sign and its size apart.
 #[derive(Clone, Copy, Debug, PartialEq, Eq)]
@@ -86,7 +87,9 @@ pub struct Numbers<'a> {
 
 impl<'a> Numbers<'a> {
     // From the line's front on.
-    pub fn of(line: &'a [u8]) -> Numbers<'a> {
+    pub fn of(line: &'a [u8]) -> Numbers<'a>
+        ensures { result.rest.now ≡ line.now }
+    {
         Numbers { rest: line }
     }
 
@@ -98,6 +101,8 @@ impl<'a> Numbers<'a> {
 
 impl Iterator for Numbers<'_> {
     type Item = Number;
+
+    ghost next_gives = { λ before number after. LeftOf before.rest.now after.rest.now };
 
     ghost remaining = { λ numbers. at_most (length numbers.rest.now) };
 
