@@ -1,15 +1,14 @@
 -- What draw answers, case by case. Assumes nothing.
 use Rattle.std.specs.Prelude.{Ok, Err}
 use mathlib.Core.Path.{◌≡◌, refl, sym, ap, ◌∙◌}
-use mathlib.Core.List.{List, ◌++◌}
+use mathlib.Core.List.{List}
 use Prim.Native.Nat.{ℕ, ◌*◌, ◌/◌, ◌≤◌, ◌<◌}
 use native.Mathlib.Omega.{arith}
 use lib.IntN.{ℤ}
-use lib.ListN.{length, take, drop}
-use lib.Seq.{length-take-le}
-use Rattle.runs.specs.Runs.{spread, over, Runs, put}
+use lib.ListN.{length}
+use Rattle.runs.specs.Runs.{spread, Runs, put}
 use Rattle.runs.proofs.Laws.{runs_none, runs_as}
-use Rattle.runs.proofs.Written.{over_whole, written_whole}
+use Rattle.runs.proofs.Written.{written_whole}
 use Rattle.plane.specs.Directions.{step_of}
 use Rattle.plane.specs.declared.Vector.{Vector}
 use Rattle.turning.specs.Edges.{edge_numbers}

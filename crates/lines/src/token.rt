@@ -1,5 +1,5 @@
 // The numbers of a line: decimal numbers with spaces between them.
-ghost use Rattle.std.specs.Prelude.{◌≡◌, [], length};
+ghost use Rattle.std.specs.Prelude.{◌≡◌, length};
 ghost use Rattle.std.specs.Iterator.{at_most};
 ghost use Rattle.lines.specs.Rests.{LeftOf};
 
